@@ -1,0 +1,98 @@
+-- Answer frames: their layout, the reader and the judge of those made elsewhere, as functions that compute.
+-- Definitions only. Assumes nothing.
+use Prim.Native.Nat.{ℕ, zero, suc, _+_, _*_, _-_}
+use mathlib.Core.Bool.{Bool, true, false, not, _&&_}
+use mathlib.Core.List.{List, [], _∷_, _++_, flatMap}
+use mathlib.Core.Option.{Option, some, none}
+use lib.Dec.{leb, ltb, eqb}
+use lib.ListN.{length, getD, take, drop}
+use Rattle.loops.specs.Loop.{choose, first, sum, allBelow, tabulate}
+use Rattle.leb128.specs.Number.{Decoded, decode, encode}
+use Rattle.graph.specs.Graph.{Graph, EdgeSet}
+use Rattle.graph.specs.Rank.{spareOf, treeRanks}
+use Rattle.graph.specs.Paths.{rooted, coversRank, judge}
+use Rattle.optimum.specs.Optimum.{Pair, both, Answer}
+use Rattle.optimum.specs.Solve.{gap, solve}
+use Rattle.frame.specs.Job.{Job, stepBytes, bytesOf, graphOf, treeOf, costOf}
+use Rattle.frame.specs.Questions.{numbers}
+
+-- The layout: the steps, one new cost for each link in link order, the count of pairs, the pairs, tree link first.
+abbrev pub answerNumbers : Answer → List ℕ
+answerNumbers a = a .costs ++ length (a .pairs) ∷ flatMap both (a .pairs)
+
+abbrev pub answerFrame : Answer → List ℕ
+answerFrame a = encode stepBytes (a .steps) ++ bytesOf (answerNumbers a)
+
+-- The answer to a job.
+abbrev pub answerOf : Job → Answer
+answerOf j = solve (graphOf j) (treeOf j) (costOf j)
+
+-- The tree cheapest by the old costs?
+abbrev pub judgeTree : Job → Bool
+judgeTree j = judge (graphOf j) (treeOf j) (costOf j) (treeRanks (graphOf j) (treeOf j) (costOf j))
+
+-- An answer to a job of m links out of its steps and the numbers behind them, if there are as many as there should be.
+abbrev pub pairFrom : List ℕ → ℕ → Pair
+pairFrom ns i = record { tree = getD ns (2 * i) 0; spare = getD ns (2 * i + 1) 0 }
+
+abbrev pub pairsFrom : ℕ → List ℕ → List Pair
+pairsFrom m ns = tabulate (getD ns m 0) (pairFrom (drop (suc m) ns))
+
+unfoldable pub answerFrom : ℕ → ℕ → Option (List ℕ) → Option Answer
+answerFrom m steps none = none
+answerFrom m steps (some ns) =
+    choose (eqb (length ns) (m + 1 + 2 * getD ns m 0))
+    (λ _. some (record { steps = steps; costs = take m ns; pairs = pairsFrom m ns }))
+    (λ _. none)
+
+unfoldable pub answerBehind : ℕ → List ℕ → Decoded → Option Answer
+answerBehind m s Decoded.none = none
+answerBehind m s (Decoded.number v n) = answerFrom m v (numbers (drop n s))
+
+-- What an answer frame to a job of m links holds.
+abbrev pub readAnswer : ℕ → List ℕ → Option Answer
+readAnswer m s = answerBehind m s (decode stepBytes s)
+
+-- The tests of the judge. A pair: a tree edge, a dearer one than the non-tree edge that covers it.
+abbrev pub rankOf : List ℕ → ℕ → ℕ
+rankOf ranks e = first (length ranks) (λ k. eqb (getD ranks k 0) e)
+
+unfoldable pub pairHolds : Graph → EdgeSet → (ℕ → ℕ) → List ℕ → Pair → Bool
+pairHolds g tr c ranks p =
+    ltb (p .tree) (g .edges) &&
+    tr (p .tree) &&
+    ltb (p .spare) (g .edges) &&
+    spareOf g tr (p .spare) &&
+    coversRank g (rooted g ranks) (p .spare) (rankOf ranks (p .tree)) &&
+    ltb (c (p .spare)) (c (p .tree))
+
+abbrev pub noPair : Pair
+noPair = record { tree = 0; spare = 0 }
+
+-- Pairs that rise by tree edge, none with the non-tree edge of an earlier one.
+abbrev pub pairsRise : List Pair → Bool
+pairsRise ps =
+    allBelow (length ps) λ i.
+    allBelow i λ k.
+    ltb (getD ps k noPair .tree) (getD ps i noPair .tree) &&
+    not (eqb (getD ps k noPair .spare) (getD ps i noPair .spare))
+
+abbrev pub pairsWeight : (ℕ → ℕ) → List Pair → ℕ
+pairsWeight c ps = sum (length ps) (λ i. c (getD ps i noPair .tree) - c (getD ps i noPair .spare))
+
+unfoldable pub answerHolds : Graph → EdgeSet → (ℕ → ℕ) → List ℕ → Answer → Bool
+answerHolds g tr c ranks a =
+    let d : (ℕ → ℕ) = λ e. getD (a .costs) e 0 in
+    eqb (a .steps) (sum (g .edges) (λ e. gap (d e) (c e))) &&
+    judge g tr d ranks &&
+    allBelow (length (a .pairs)) (λ i. pairHolds g tr c ranks (getD (a .pairs) i noPair)) &&
+    pairsRise (a .pairs) &&
+    eqb (pairsWeight c (a .pairs)) (a .steps)
+
+unfoldable pub judgeRead : Job → Option Answer → Bool
+judgeRead j none = false
+judgeRead j (some a) = answerHolds (graphOf j) (treeOf j) (costOf j) (treeRanks (graphOf j) (treeOf j) (costOf j)) a
+
+-- The judge of an answer frame s to the accepted job j.
+abbrev pub judgeAnswer : Job → List ℕ → Bool
+judgeAnswer j s = judgeRead j (readAnswer (length (j .links)) s)

@@ -1,0 +1,148 @@
+-- Questions 1 to 5: what is computed is the first question whose answer is "no", by what the questions mean.
+-- Assumes nothing.
+use Prim.Native.Nat.{ℕ, zero, suc, _+_, _*_, _<_, _≤_}
+use native.Mathlib.Omega.{arith}
+use mathlib.Core.Path.{_≡_, refl, sym, subst, ap, _∙_}
+use mathlib.Core.Logic.{_↔_, _⊎_, inl, inr, ⊎-elim}
+use mathlib.Core.Bool.{Bool, true, false, not, _&&_}
+use mathlib.Core.List.{List, [], _∷_}
+use mathlib.Core.Option.{Option, some}
+use lib.Dec.{leb, ltb, eqb}
+use lib.ListN.{length, getD}
+use borrow.Author.Tests.{leb-true, ltb-true, eqb-true, eqb-false, le-leb, lt-ltb, eq-eqb, ne-eqb, not-true}
+use Rattle.loops.specs.TestLaws.{truth, clash, and-first, and-second, and-both, all-at, all-of}
+use Rattle.leb128.specs.Number.{Bytes}
+use Rattle.frame.specs.Job.{Job, link, maxNodes, maxEdges}
+use Rattle.frame.specs.Questions.{numbers, nodeCount, edgeCount, jobFrom, question1, question2, question3, question4, question5, ask, numberQuestions, formRefusal}
+use Rattle.frame.specs.Meaning.{Divides, Counted, Complete, EndsHold, MarksHold, FirstNo}
+use Rattle.frame.specs.Meaning.FirstNo.{no1, no2, no3, no4, no5, none}
+use Rattle.frame.specs.Division.{division, division-unique}
+
+pub question2-means : (ns : List ℕ) → (question2 ns ≡ true) ↔ Counted ns
+unfolding question2
+question2-means ns = (λ h. holds h, λ h. rw (le-leb 2 (length ns) (h .two), le-leb 1 (nodeCount ns) (h .some-node), le-leb (nodeCount ns) maxNodes (h .node-limit)) (le-leb (edgeCount ns) maxEdges (h .edge-limit)))
+  where
+    two : Bool
+    two = leb 2 (length ns)
+
+    node : Bool
+    node = leb 1 (nodeCount ns)
+
+    low : Bool
+    low = leb (nodeCount ns) maxNodes
+
+    high : Bool
+    high = leb (edgeCount ns) maxEdges
+
+    holds : question2 ns ≡ true → Counted ns
+    holds h =
+        let h₃ = and-first (two && node && low) high h in
+        let h₂ = and-first (two && node) low h₃ in
+        record {
+          two = leb-true 2 (length ns) (and-first two node h₂);
+          some-node = leb-true 1 (nodeCount ns) (and-second two node h₂);
+          node-limit = leb-true (nodeCount ns) maxNodes (and-second (two && node) low h₃);
+          edge-limit = leb-true (edgeCount ns) maxEdges (and-second (two && node && low) high h);
+        }
+
+pub question3-means : (ns : List ℕ) → (question3 ns ≡ true) ↔ Complete ns
+unfolding question3
+question3-means ns = (eqb-true (length ns) (4 * edgeCount ns + 2), eq-eqb (length ns) (4 * edgeCount ns + 2))
+
+pub question4-means : (j : Job) → (question4 j ≡ true) ↔ EndsHold j
+unfolding question4
+question4-means j = (
+  λ h. record {
+    first = λ e l. ltb-true (link j e .end₁) (j .nodes) (and-first (below₁ e) (below₂ e) (and-first (below₁ e && below₂ e) (apart e) (at h e l)));
+    second = λ e l. ltb-true (link j e .end₂) (j .nodes) (and-second (below₁ e) (below₂ e) (and-first (below₁ e && below₂ e) (apart e) (at h e l)));
+    differ = λ e l. eqb-false (link j e .end₁) (link j e .end₂) (not-true (eqb (link j e .end₁) (link j e .end₂)) (and-second (below₁ e && below₂ e) (apart e) (at h e l)));
+  },
+  λ h. all-of (length (j .links)) (λ e. below₁ e && below₂ e && apart e) (λ e l. rw (lt-ltb (link j e .end₁) (j .nodes) (h .first e l), lt-ltb (link j e .end₂) (j .nodes) (h .second e l), ne-eqb (link j e .end₁) (link j e .end₂) (h .differ e l))),
+)
+  where
+    below₁ : ℕ → Bool
+    below₁ e = ltb (link j e .end₁) (j .nodes)
+
+    below₂ : ℕ → Bool
+    below₂ e = ltb (link j e .end₂) (j .nodes)
+
+    apart : ℕ → Bool
+    apart e = not (eqb (link j e .end₁) (link j e .end₂))
+
+    at : question4 j ≡ true → (e : ℕ) → e < length (j .links) → (below₁ e && below₂ e && apart e) ≡ true
+    at h e l = all-at (length (j .links)) (λ e. below₁ e && below₂ e && apart e) h e l
+
+pub mark-means : (m : ℕ) → (leb m 1 ≡ true) ↔ ((m ≡ 0) ⊎ (m ≡ 1))
+mark-means m = (λ h. split m (leb-true m 1 h), λ h. le-leb m 1 (⊎-elim (λ p. omega arith) (λ p. omega arith) h))
+  where
+    split : (m : ℕ) → m ≤ 1 → (m ≡ 0) ⊎ (m ≡ 1)
+    split zero h = inl refl
+    split (suc m) h = inr (omega arith)
+
+pub question5-means : (j : Job) → (question5 j ≡ true) ↔ MarksHold j
+unfolding question5
+question5-means j = (
+  λ h e l. mark-means (link j e .mark) .0 (all-at (length (j .links)) (λ e. leb (link j e .mark) 1) h e l),
+  λ h. all-of (length (j .links)) (λ e. leb (link j e .mark) 1) (λ e l. mark-means (link j e .mark) .1 (h e l)),
+)
+
+-- A question is answered "no" exactly where what it means does not hold.
+refutes : {A : Type 0} {b : Bool} → (b ≡ true) ↔ A → b ≡ false → A → ⊥
+refutes means n a = clash (means .1 a) n
+
+refuted : {A : Type 0} {b : Bool} → (b ≡ true) ↔ A → (A → ⊥) → b ≡ false
+refuted {b = b} means n = ⊎-elim (λ y. absurd (n (means .0 y))) (λ f. f) (truth b)
+
+-- The questions in turn, each by the two words that it may have.
+module _ (s ns : List ℕ) (d : Divides s ns) where
+  form5 : Counted ns → Complete ns → EndsHold (jobFrom ns) → FirstNo s (ask (question5 (jobFrom ns)) 5 λ _. 0)
+  form5 h₂ h₃ h₄ =
+      ⊎-elim
+      (λ y. rw y (none ns d h₂ h₃ h₄ (question5-means (jobFrom ns) .0 y)))
+      (λ n. rw n (no5 ns d h₂ h₃ h₄ (refutes (question5-means (jobFrom ns)) n)))
+      (truth (question5 (jobFrom ns)))
+
+  form4 : Counted ns → Complete ns → FirstNo s (ask (question4 (jobFrom ns)) 4 λ _. ask (question5 (jobFrom ns)) 5 λ _. 0)
+  form4 h₂ h₃ =
+      ⊎-elim
+      (λ y. rw y (form5 h₂ h₃ (question4-means (jobFrom ns) .0 y)))
+      (λ n. rw n (no4 ns d h₂ h₃ (refutes (question4-means (jobFrom ns)) n)))
+      (truth (question4 (jobFrom ns)))
+
+  form3 : Counted ns → FirstNo s (ask (question3 ns) 3 λ _. ask (question4 (jobFrom ns)) 4 λ _. ask (question5 (jobFrom ns)) 5 λ _. 0)
+  form3 h₂ =
+      ⊎-elim
+      (λ y. rw y (form4 h₂ (question3-means ns .0 y)))
+      (λ n. rw n (no3 ns d h₂ (refutes (question3-means ns) n)))
+      (truth (question3 ns))
+
+  form2 : FirstNo s (numberQuestions (λ _. 0) ns)
+  form2 =
+      ⊎-elim
+      (λ y. rw y (form3 (question2-means ns .0 y)))
+      (λ n. rw n (no2 ns d (refutes (question2-means ns) n)))
+      (truth (question2 ns))
+
+form1 : (s : List ℕ) → Bytes s → (r : Option (List ℕ)) → numbers s ≡ r → FirstNo s (question1 r (numberQuestions λ _. 0))
+form1 s h (some ns) e = form2 s ns (division s ns h .0 e)
+form1 s h Option.none e = no1 (λ ns d. let z : _≡_ {A = ℕ} 0 1 = cc (division s ns h .1 d) in omega arith)
+
+-- What is computed is the first question whose answer is "no".
+pub form : (s : List ℕ) → Bytes s → FirstNo s (formRefusal s)
+form s h = form1 s h (numbers s) refl
+
+-- There is one first "no" only.
+pub form-unique : (s : List ℕ) (r : ℕ) → Bytes s → FirstNo s r → formRefusal s ≡ r
+form-unique s r h (no1 q) = ⊎-elim (λ e. rw e) (λ e. absurd (q (e .0) (division s (e .0) h .0 (e .1)))) (either (numbers s))
+  where
+    either : (o : Option (List ℕ)) → (o ≡ Option.none) ⊎ ((ns : List ℕ) × (o ≡ some ns))
+    either (some ns) = inr (ns, refl)
+    either Option.none = inl refl
+form-unique s r h (no2 ns d q) = rw (division s ns h .1 d, refuted (question2-means ns) q)
+form-unique s r h (no3 ns d h₂ q) = rw (division s ns h .1 d, question2-means ns .1 h₂, refuted (question3-means ns) q)
+form-unique s r h (no4 ns d h₂ h₃ q) =
+    rw (division s ns h .1 d, question2-means ns .1 h₂, question3-means ns .1 h₃, refuted (question4-means (jobFrom ns)) q)
+form-unique s r h (no5 ns d h₂ h₃ h₄ q) =
+    rw (division s ns h .1 d, question2-means ns .1 h₂, question3-means ns .1 h₃, question4-means (jobFrom ns) .1 h₄, refuted (question5-means (jobFrom ns)) q)
+form-unique s r h (none ns d h₂ h₃ h₄ h₅) =
+    rw (division s ns h .1 d, question2-means ns .1 h₂, question3-means ns .1 h₃, question4-means (jobFrom ns) .1 h₄, question5-means (jobFrom ns) .1 h₅)

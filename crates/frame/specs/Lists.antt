@@ -1,0 +1,148 @@
+-- A list of links is refused as its frame is, and a frame written of one reads as that list. Assumes nothing.
+use Prim.Native.Nat.{ℕ, zero, suc, _+_, _*_, _<_, _≤_}
+use native.Mathlib.Omega.{arith}
+use mathlib.Core.Path.{_≡_, refl, sym, subst, ap, _∙_}
+use mathlib.Core.Logic.{_⊎_, ⊎-elim}
+use mathlib.Core.Bool.{Bool, true, false, _&&_}
+use mathlib.Core.List.{List, [], _∷_, _++_, flatMap}
+use mathlib.Core.Option.{Option, some}
+use lib.Dec.{leb}
+use lib.ListN.{length, getD, length-append}
+use borrow.Author.Tests.{leb-true, le-leb}
+use Rattle.loops.specs.Loop.{allBelow}
+use Rattle.loops.specs.TestLaws.{truth, clash, and-first, and-second, and-both, all-at}
+use Rattle.leb128.specs.Number.{encode}
+use Rattle.leb128.specs.Laws.{encode-size-last, encode-size-most}
+use Rattle.frame.specs.Job.{Edge, Job, noEdge, link, fields, maxNodes, maxEdges, maxNumber, numberBytes, jobNumbers, bytesOf, jobFrame}
+use Rattle.frame.specs.Questions.{jobOf, numbers, question1, question2, question3, question4, question5, ask, numberQuestions, formRefusal}
+use Rattle.frame.specs.Services.{smallEdge, small, counted, listQuestions, listFormRefusal}
+use Rattle.frame.specs.Meaning.{Small, Complete, EndsHold, MarksHold}
+use Rattle.frame.specs.Division.{small-cons, divide-complete}
+use Rattle.frame.specs.Form.{question3-means, question4-means, question5-means}
+use Rattle.frame.specs.RoundTrip.{flatMap-append, numbers-job}
+
+small-link : (l : Edge) → smallEdge l ≡ true → (rest : List ℕ) → Small rest → Small (fields l ++ rest)
+small-link l h rest k =
+    small-cons (l .end₁) (l .end₂ ∷ l .cost ∷ l .mark ∷ rest) (leb-true (l .end₁) maxNumber (and-first a b ab))
+    (small-cons (l .end₂) (l .cost ∷ l .mark ∷ rest) (leb-true (l .end₂) maxNumber (and-second a b ab))
+    (small-cons (l .cost) (l .mark ∷ rest) (leb-true (l .cost) maxNumber (and-second (a && b) c abc))
+    (small-cons (l .mark) rest (leb-true (l .mark) maxNumber (and-second (a && b && c) d h)) k)))
+  where
+    a : Bool
+    a = leb (l .end₁) maxNumber
+
+    b : Bool
+    b = leb (l .end₂) maxNumber
+
+    c : Bool
+    c = leb (l .cost) maxNumber
+
+    d : Bool
+    d = leb (l .mark) maxNumber
+
+    abc : (a && b && c) ≡ true
+    abc = and-first (a && b && c) d h
+
+    ab : (a && b) ≡ true
+    ab = and-first (a && b) c abc
+
+small-links : (ls : List Edge) → ((e : ℕ) → e < length ls → smallEdge (getD ls e noEdge) ≡ true) → Small (flatMap fields ls)
+unfolding flatMap
+small-links [] h = λ i. omega arith
+small-links (l ∷ ls) h = small-link l (h 0 (omega arith)) (flatMap fields ls) (small-links ls (λ e k. h (suc e) (omega arith)))
+
+small-job : (j : Job) → small j ≡ true → Small (jobNumbers j)
+unfolding small
+small-job j h =
+    small-cons (j .nodes) (length (j .links) ∷ flatMap fields (j .links)) (leb-true (j .nodes) maxNumber (and-first n m nm))
+    (small-cons (length (j .links)) (flatMap fields (j .links)) (leb-true (length (j .links)) maxNumber (and-second n m nm))
+    (small-links (j .links) (all-at (length (j .links)) (λ e. smallEdge (link j e)) (and-second (n && m) every h))))
+  where
+    n : Bool
+    n = leb (j .nodes) maxNumber
+
+    m : Bool
+    m = leb (length (j .links)) maxNumber
+
+    every : Bool
+    every = allBelow (length (j .links)) λ e. smallEdge (link j e)
+
+    nm : (n && m) ≡ true
+    nm = and-first (n && m) every h
+
+-- The frame of a list of links divides into its numbers.
+pub list-numbers : (j : Job) → small j ≡ true → numbers (jobFrame j) ≡ some (jobNumbers j)
+list-numbers j h = divide-complete (length (jobFrame j)) (jobNumbers j) (small-job j h) (omega arith)
+
+length-fields : (ls : List Edge) → length (flatMap fields ls) ≡ 4 * length ls
+unfolding flatMap
+length-fields [] = refl
+length-fields (l ∷ ls) = omega (arith, length-fields ls)
+
+pub list-complete : (j : Job) → Complete (jobNumbers j)
+list-complete j = omega (arith, length-fields (j .links))
+
+list-counted : (j : Job) → question2 (jobNumbers j) ≡ counted j
+unfolding question2 counted
+list-counted j = rw (le-leb 2 (length (jobNumbers j)) (omega arith))
+
+-- Where no number is above 16,383 the questions say of a list of links what they say of its frame.
+pub list-as-frame : (rest : Job → ℕ) (j : Job) → small j ≡ true → listQuestions rest j ≡ question1 (numbers (jobFrame j)) (numberQuestions rest)
+list-as-frame rest j h =
+    rw (h, list-numbers j h, list-counted j, question3-means (jobNumbers j) .1 (list-complete j), numbers-job j)
+
+-- A question passed: its answer was "yes", and the rest passed too.
+ask-passed : (b : Bool) (n : ℕ) (rest : Unit {0} → ℕ) → ask b (suc n) rest ≡ 0 → (b ≡ true) × (rest tt ≡ 0)
+ask-passed true n rest h = (refl, h)
+ask-passed false n rest h = absurd (omega arith)
+
+-- A list of links that passes questions 1 to 5.
+pub record Listed (j : Job) : Type 0 where
+  pub small : small j ≡ true
+  pub counted : counted j ≡ true
+  pub ends : EndsHold j
+  pub marks : MarksHold j
+
+pub listed : (j : Job) → listFormRefusal j ≡ 0 → Listed j
+listed j h =
+    let (y₁, r₁) = ask-passed (small j) 0 (λ _. ask (counted j) 2 λ _. ask (question4 j) 4 λ _. ask (question5 j) 5 λ _. 0) h in
+    let (y₂, r₂) = ask-passed (counted j) 1 (λ _. ask (question4 j) 4 λ _. ask (question5 j) 5 λ _. 0) r₁ in
+    let (y₄, r₄) = ask-passed (question4 j) 3 (λ _. ask (question5 j) 5 λ _. 0) r₂ in
+    let (y₅, r₅) = ask-passed (question5 j) 4 (λ _. 0) r₄ in
+    record { small = y₁; counted = y₂; ends = question4-means j .0 y₄; marks = question5-means j .0 y₅ }
+
+-- What is written of a list of links that passes questions 1 to 5 passes them too and reads as that list.
+pub read-write : (j : Job) → listFormRefusal j ≡ 0 → (formRefusal (jobFrame j) ≡ 0) × (jobOf (jobFrame j) ≡ j)
+read-write j h =
+    let y = listed j h .small in
+    (sym (list-as-frame (λ _. 0) j y) ∙ h, rw (list-numbers j y) (numbers-job j))
+
+pub counted-limits : (j : Job) → counted j ≡ true → (1 ≤ j .nodes) × (j .nodes ≤ maxNodes) × (length (j .links) ≤ maxEdges)
+unfolding counted
+counted-limits j h =
+    let low = and-first (leb 1 (j .nodes) && leb (j .nodes) maxNodes) (leb (length (j .links)) maxEdges) h in
+    (leb-true 1 (j .nodes) (and-first (leb 1 (j .nodes)) (leb (j .nodes) maxNodes) low), leb-true (j .nodes) maxNodes (and-second (leb 1 (j .nodes)) (leb (j .nodes) maxNodes) low), leb-true (length (j .links)) maxEdges (and-second (leb 1 (j .nodes) && leb (j .nodes) maxNodes) (leb (length (j .links)) maxEdges) h))
+
+mark-small : (m : ℕ) → (m ≡ 0) ⊎ (m ≡ 1) → m < 128
+mark-small m h = ⊎-elim (λ p. omega arith) (λ p. omega arith) h
+
+-- A link takes at most five bytes, where its ends and its mark are below 128.
+link-size : (l : Edge) → l .end₁ < 128 → l .end₂ < 128 → l .mark < 128 → length (bytesOf (fields l)) ≤ 5
+unfolding flatMap
+link-size l a b m =
+    simp length-append (omega (arith, encode-size-last 1 (l .end₁) a, encode-size-last 1 (l .end₂) b, encode-size-most 2 (l .cost), encode-size-last 1 (l .mark) m))
+
+links-size : (ls : List Edge) → ((e : ℕ) → e < length ls → length (bytesOf (fields (getD ls e noEdge))) ≤ 5) → length (bytesOf (flatMap fields ls)) ≤ 5 * length ls
+unfolding flatMap
+links-size [] h = omega arith
+links-size (l ∷ ls) h =
+    omega (arith, ap length (flatMap-append (encode numberBytes) (fields l) (flatMap fields ls)), length-append (bytesOf (fields l)) (bytesOf (flatMap fields ls)), h 0 (omega arith), links-size ls (λ e k. h (suc e) (omega arith)))
+
+-- The longest job has 1,283 bytes.
+pub longest : (j : Job) → listFormRefusal j ≡ 0 → length (jobFrame j) ≤ 1283
+unfolding flatMap
+longest j h =
+    let q = listed j h in
+    let limits = counted-limits j (q .counted) in
+    let links = links-size (j .links) (λ e k. link-size (link j e) (omega (arith, q .ends .first e k)) (omega (arith, q .ends .second e k)) (mark-small (link j e .mark) (q .marks e k))) in
+    simp length-append (omega (arith, encode-size-last 1 (j .nodes) (omega arith), encode-size-most 2 (length (j .links))))

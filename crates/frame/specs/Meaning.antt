@@ -1,0 +1,49 @@
+-- What the questions mean, in document 01's words, and which of them is the first with the answer "no".
+-- Definitions only. Assumes nothing.
+use Prim.Native.Nat.{ℕ, _+_, _*_, _<_, _≤_}
+use mathlib.Core.Path.{_≡_}
+use mathlib.Core.Logic.{_≢_, _⊎_}
+use mathlib.Core.List.{List}
+use lib.ListN.{length, getD}
+use Rattle.graph.specs.Graph.{SpanningTree}
+use Rattle.frame.specs.Job.{Job, link, maxNodes, maxEdges, maxNumber, bytesOf, graphOf, treeOf}
+use Rattle.frame.specs.Questions.{nodeCount, edgeCount, jobFrom}
+
+-- Numbers of at most 16,383.
+abbrev pub Small : List ℕ → Type 0
+Small ns = (i : ℕ) → getD ns i 0 ≤ maxNumber
+
+-- 1. The frame divides into whole numbers, each in shortest form of one or two bytes.
+pub record Divides (s ns : List ℕ) : Type 0 where
+  pub small : Small ns
+  pub joined : bytesOf ns ≡ s
+
+-- 2. There are at least two numbers, the first 1 to 64, the second 0 to 256.
+pub record Counted (ns : List ℕ) : Type 0 where
+  pub two : 2 ≤ length ns
+  pub some-node : 1 ≤ nodeCount ns
+  pub node-limit : nodeCount ns ≤ maxNodes
+  pub edge-limit : edgeCount ns ≤ maxEdges
+
+-- 3. There are exactly 2 + 4 × link count numbers.
+abbrev pub Complete : List ℕ → Type 0
+Complete ns = length ns ≡ 4 * edgeCount ns + 2
+
+-- 4. Every link's ends are below the station count and different.
+pub record EndsHold (j : Job) : Type 0 where
+  pub first : (e : ℕ) → e < length (j .links) → link j e .end₁ < j .nodes
+  pub second : (e : ℕ) → e < length (j .links) → link j e .end₂ < j .nodes
+  pub differ : (e : ℕ) → e < length (j .links) → link j e .end₁ ≢ link j e .end₂
+
+-- 5. Every mark is 0 or 1.
+abbrev pub MarksHold : Job → Type 0
+MarksHold j = (e : ℕ) → e < length (j .links) → (link j e .mark ≡ 0) ⊎ (link j e .mark ≡ 1)
+
+-- The first question of 1 to 5 whose answer is "no"; 0 if none is. The questions before it have the answer "yes".
+pub data FirstNo (s : List ℕ) : ℕ → Type 0 where
+  no1 : ((ns : List ℕ) → Divides s ns → ⊥) → FirstNo s 1
+  no2 : (ns : List ℕ) → Divides s ns → (Counted ns → ⊥) → FirstNo s 2
+  no3 : (ns : List ℕ) → Divides s ns → Counted ns → (Complete ns → ⊥) → FirstNo s 3
+  no4 : (ns : List ℕ) → Divides s ns → Counted ns → Complete ns → (EndsHold (jobFrom ns) → ⊥) → FirstNo s 4
+  no5 : (ns : List ℕ) → Divides s ns → Counted ns → Complete ns → EndsHold (jobFrom ns) → (MarksHold (jobFrom ns) → ⊥) → FirstNo s 5
+  none : (ns : List ℕ) → Divides s ns → Counted ns → Complete ns → EndsHold (jobFrom ns) → MarksHold (jobFrom ns) → FirstNo s 0

@@ -1,0 +1,96 @@
+-- The questions put to a job frame, each to the whole frame before the next, as functions that compute.
+-- Definitions only. Assumes nothing.
+use Prim.Native.Nat.{ℕ, zero, suc, _+_, _*_}
+use mathlib.Core.Bool.{Bool, not, _&&_}
+use mathlib.Core.List.{List, [], _∷_}
+use mathlib.Core.Option.{Option, some, none, Option·map, Option·getD}
+use lib.Dec.{leb, ltb, eqb}
+use lib.ListN.{length, getD, drop}
+use Rattle.loops.specs.Loop.{choose, allBelow}
+use Rattle.leb128.specs.Number.{Decoded, decode}
+use Rattle.graph.specs.Rank.{treeRanks}
+use Rattle.graph.specs.Paths.{isTree}
+use Rattle.frame.specs.Job.{Edge, Job, link, maxNodes, maxEdges, numberBytes, graphOf, treeOf, costOf}
+
+-- A number in front of what follows it.
+unfoldable pub front : (List ℕ → Option (List ℕ)) → List ℕ → Decoded → Option (List ℕ)
+front rest s (Decoded.number v n) = Option·map (v ∷_) (rest (drop n s))
+front rest s Decoded.none = none
+
+-- The numbers into which a frame divides, if it does. The first number bounds how many.
+unfoldable pub divide : ℕ → List ℕ → Option (List ℕ)
+divide zero [] = some []
+divide zero (b ∷ s) = none
+divide (suc k) [] = some []
+divide (suc k) (b ∷ s) = front (λ s′. divide k s′) (b ∷ s) (decode numberBytes (b ∷ s))
+
+abbrev pub numbers : List ℕ → Option (List ℕ)
+numbers s = divide (length s) s
+
+-- The job of a list of numbers: the two counts, then the links.
+abbrev pub nodeCount : List ℕ → ℕ
+nodeCount ns = getD ns 0 0
+
+abbrev pub edgeCount : List ℕ → ℕ
+edgeCount ns = getD ns 1 0
+
+-- Each four numbers make a link.
+unfoldable pub linksOf : List ℕ → List Edge
+linksOf [] = []
+linksOf (a ∷ []) = []
+linksOf (a ∷ b ∷ []) = []
+linksOf (a ∷ b ∷ c ∷ []) = []
+linksOf (a ∷ b ∷ c ∷ m ∷ ns) = record { end₁ = a; end₂ = b; cost = c; mark = m } ∷ linksOf ns
+
+abbrev pub jobFrom : List ℕ → Job
+jobFrom ns = record { nodes = nodeCount ns; links = linksOf (drop 2 ns) }
+
+abbrev pub jobOf : List ℕ → Job
+jobOf s = jobFrom (Option·getD (numbers s) [])
+
+-- 2. Are there at least two numbers, the first 1 to 64, the second 0 to 256?
+unfoldable pub question2 : List ℕ → Bool
+question2 ns = leb 2 (length ns) && leb 1 (nodeCount ns) && leb (nodeCount ns) maxNodes && leb (edgeCount ns) maxEdges
+
+-- 3. Are there exactly 2 + 4 × link count numbers?
+unfoldable pub question3 : List ℕ → Bool
+question3 ns = eqb (length ns) (4 * edgeCount ns + 2)
+
+-- 4. Are every link's ends below the station count and different?
+unfoldable pub question4 : Job → Bool
+question4 j =
+    allBelow (length (j .links)) λ e.
+    ltb (link j e .end₁) (j .nodes) && ltb (link j e .end₂) (j .nodes) && not (eqb (link j e .end₁) (link j e .end₂))
+
+-- 5. Is every mark 0 or 1?
+unfoldable pub question5 : Job → Bool
+question5 j = allBelow (length (j .links)) λ e. leb (link j e .mark) 1
+
+-- 6. Are there (stations − 1) tree links, and do they join all stations?
+unfoldable pub question6 : Job → Bool
+question6 j = isTree (graphOf j) (treeRanks (graphOf j) (treeOf j) (costOf j))
+
+-- The first "no" gives the number; 0 if there is none.
+abbrev pub ask : Bool → ℕ → (Unit {0} → ℕ) → ℕ
+ask answer number rest = choose answer rest (λ _. number)
+
+-- Questions 2 to 5, put to the numbers of a frame, and then what `rest` says of the job.
+abbrev pub numberQuestions : (Job → ℕ) → List ℕ → ℕ
+numberQuestions rest ns =
+    ask (question2 ns) 2 λ _.
+    ask (question3 ns) 3 λ _.
+    ask (question4 (jobFrom ns)) 4 λ _.
+    ask (question5 (jobFrom ns)) 5 λ _.
+    rest (jobFrom ns)
+
+-- 1. Does the frame divide into whole numbers, each in shortest form of one or two bytes?
+abbrev pub question1 : Option (List ℕ) → (List ℕ → ℕ) → ℕ
+question1 (some ns) rest = rest ns
+question1 none rest = 1
+
+-- The refusal of a frame by questions 1 to 5, and by questions 1 to 6. A frame whose refusal is 0 is accepted.
+abbrev pub formRefusal : List ℕ → ℕ
+formRefusal s = question1 (numbers s) (numberQuestions λ _. 0)
+
+abbrev pub refusal : List ℕ → ℕ
+refusal s = question1 (numbers s) (numberQuestions λ j. ask (question6 j) 6 λ _. 0)

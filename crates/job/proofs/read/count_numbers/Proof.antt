@@ -1,0 +1,84 @@
+-- `job::read::count_numbers` meets its contract. The loop's invariant: what is still to be counted, added to the count,
+-- is the whole. The measure is what is left of the frame. Assumes nothing.
+use Prim.Native.Nat.{_+_, _-_}
+use mathlib.Core.Path.{sym, _∙_}
+use native.Mathlib.Omega.{arith}
+use borrow.Author.Needs.{needs}
+use lib.ListN.{length}
+use Rattle.frame.specs.Questions.{numbers}
+use Rattle.job.specs.Reading.{countFrom}
+use Rattle.job.specs.ReadingLaws.{Counting, count-start, count-turn, count-refused, count-end, read-further}
+use Rattle.job.proofs.read.count_numbers.Statement.{statement}
+use Rattle.job.proofs.read.count_numbers.Tie as tie
+use Rattle.job.proofs.read.count_numbers.Reads as reads
+use Rattle.job.proofs.read.count_numbers.Lts as lts
+use Rattle.leb128.proofs.read.Reads as read-reads
+
+abbrev Inv-loop : tie.InvT-loop
+Inv-loop frame at₀ count₀ at count = Counting frame at count (countFrom 0 (numbers frame))
+
+abbrev μ-loop : tie.MeasureT-loop
+μ-loop frame at₀ count₀ at count = length frame - at
+
+-- src/read.rt:37:5
+loop-holds : tie.Need-loop-holds Inv-loop μ-loop
+loop-holds c = count-start _
+
+-- src/read.rt:38:13
+read-requires : tie.Need-read-requires Inv-loop μ-loop
+read-requires c κs = search needs
+
+-- src/read.rt:39:30
+enum-known-n : tie.Need-enum-known-n Inv-loop μ-loop
+enum-known-n c = c .match .keys1
+
+-- src/read.rt:40:13
+enum-told : tie.Need-enum-told Inv-loop μ-loop
+enum-told c = c .match .keys2
+
+-- src/read.rt:40:13
+returns : tie.Need-returns Inv-loop μ-loop
+returns c =
+    let r = c .before .before in
+    let l = r .before .before in
+    count-refused _ (l .loop .at) (l .loop .count) _ (l .loop .inv) (r .before .loop-test .taken) (sym (r .read .ensures) ∙ c .enum-told .given .1)
+
+-- the invariant behind the number that was read
+turned : (c : tie.After-known-told Inv-loop μ-loop) → Counting (c .before .before .before .before .before .before .before .args .frame .now) (c .before .n .given .0 .1 .0) (c .before .before .before .before .before .loop .count + 1) (countFrom 0 (numbers (c .before .before .before .before .before .before .before .args .frame .now)))
+turned c =
+    let r = c .before .before .before in
+    let l = r .before .before in
+    let n = c .before .n .given in
+    count-turn _ (l .loop .at) (l .loop .count) _ (l .loop .inv) (r .before .loop-test .taken) (n .0 .0) (n .0 .1 .0) (sym (r .read .ensures) ∙ n .1)
+
+add-count : tie.Need-add-count Inv-loop μ-loop
+add-count c = omega (arith, turned c .few, turned c .within)
+
+loop-less : tie.Need-loop-less Inv-loop μ-loop
+loop-less c =
+    let r = c .before .before .before in
+    let n = c .before .n .given in
+    omega (arith, read-further _ _ (n .0 .0) (n .0 .1 .0) (sym (r .read .ensures) ∙ n .1))
+
+loop-again : tie.Need-loop-again Inv-loop μ-loop
+loop-again c = turned c
+
+-- src/read.rt:32:1
+returns-2 : tie.Need-returns-2 Inv-loop μ-loop
+returns-2 c = count-end _ _ _ _ (c .before .loop .inv) (c .loop-test .left)
+
+pub count-numbers-spec : {M : Type 1} → statement M
+count-numbers-spec =
+    tie.close
+    (tie.spec
+    Inv-loop
+    μ-loop
+    loop-holds
+    read-requires
+    enum-known-n
+    enum-told
+    returns
+    add-count
+    loop-less
+    loop-again
+    returns-2)

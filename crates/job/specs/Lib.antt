@@ -1,0 +1,3 @@
+-- What the functions on job frames compute, and laws that tie it to the frame's definitions.
+pub mod Reading
+pub mod ReadingLaws

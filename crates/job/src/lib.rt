@@ -1,0 +1,2 @@
+// Job frames: the numbers of a frame, the reader that puts its links into arrays, the writer, the link finder.
+pub mod read;

@@ -1,0 +1,114 @@
+-- One step of each model, in the shape of the code's own tests: a number of bytes that is 0 or not, a position in the slice or past it, a
+-- byte below 128 or not. Assumes nothing.
+use Prim.Native.Nat.{ℕ, zero, suc, _+_, _*_, _-_, _/_, _%_, _^_, _<_, _≤_}
+use native.Mathlib.Nat.{lt-of-lt-of-le, pow-le-pow-right}
+use native.Mathlib.Numerals.{add-one}
+use native.Mathlib.Omega.{arith}
+use mathlib.Core.Path.{_≡_, refl, ap, _∙_}
+use mathlib.Core.List.{List, [], _∷_}
+use lib.ListN.{length, drop, getD, drop-of-length-le}
+use lib.Seq.{drop-cons}
+use borrow.Author.Tests.{lt-ltb, le-ltb}
+use Rattle.leb128.specs.Number.{Bytes, encode, Decoded, extend, decode, located, readAt}
+use Rattle.leb128.specs.Number.Decoded.{number, none}
+use Rattle.leb128.specs.declared.Number.the-variants.{Value, Refused}
+use Rattle.leb128.specs.Laws.{bytes-drop, decode-bound, extend-zero, extend-more}
+
+pub encode-none : (k x : ℕ) → k ≡ 0 → encode k x ≡ []
+unfolding encode
+encode-none k x e = rw e
+
+pub encode-last : (k x : ℕ) → (k ≡ 0 → ⊥) → x < 128 → encode k x ≡ x ∷ []
+unfolding encode
+encode-last zero x some l = absurd (some refl)
+encode-last (suc k) x some l = rw (lt-ltb x 128 l)
+
+pub encode-more :
+    (k x : ℕ) → (k ≡ 0 → ⊥) → 128 ≤ x → encode k x ≡ (x % 128 + 128) ∷ encode (k - 1) (x / 128)
+unfolding encode
+encode-more zero x some l = absurd (some refl)
+encode-more (suc k) x some l =
+    let less : suc k - 1 ≡ k = omega arith in
+    rw (le-ltb x 128 l, less)
+
+pub read-none : (k : ℕ) (s : List ℕ) (at : ℕ) → k ≡ 0 → readAt k s at ≡ Refused
+unfolding decode located
+read-none k s at e = rw e
+
+pub read-end : (k : ℕ) (s : List ℕ) (at : ℕ) → length s ≤ at → readAt k s at ≡ Refused
+unfolding decode located
+read-end zero s at l = refl
+read-end (suc k) s at l = rw (drop-of-length-le s l)
+
+pub read-last :
+    (k : ℕ) (s : List ℕ) (at : ℕ) →
+    (k ≡ 0 → ⊥) →
+    at < length s →
+    getD s at 0 < 128 →
+    readAt k s at ≡ Value (getD s at 0) (at + 1)
+unfolding decode located
+read-last zero s at some within l = absurd (some refl)
+read-last (suc k) s at some within l = rw (drop-cons s at 0 within, lt-ltb (getD s at 0) 128 l)
+
+-- The bytes behind the first: the number of them is one less, and the position one further.
+read-rest :
+    (k : ℕ) (s : List ℕ) (at : ℕ) →
+    (k ≡ 0 → ⊥) →
+    at < length s →
+    128 ≤ getD s at 0 →
+    decode k (drop at s) ≡ extend (getD s at 0 - 128) (decode (k - 1) (drop (at + 1) s))
+unfolding decode
+read-rest zero s at some within l = absurd (some refl)
+read-rest (suc k) s at some within l =
+    let less : suc k - 1 ≡ k = omega arith in
+    rw (drop-cons s at 0 within, le-ltb (getD s at 0) 128 l, less, add-one)
+
+-- What an answer says of what was read.
+located-value :
+    (at : ℕ) (d : Decoded) (v next : ℕ) →
+    located at d ≡ Value v next →
+    (n : ℕ) × (d ≡ number v n) × (next ≡ at + n)
+unfolding located
+located-value at (number w m) v next e = (m, cc, cc)
+located-value at none v next e = let z : _≡_ {A = ℕ} 0 1 = cc in absurd (omega arith)
+
+located-refused : (at : ℕ) (d : Decoded) → located at d ≡ Refused → d ≡ none
+unfolding located
+located-refused at (number w m) e = let z : _≡_ {A = ℕ} 0 1 = cc in absurd (omega arith)
+located-refused at none e = refl
+
+module _ (k : ℕ) (s : List ℕ) (at : ℕ) (some : k ≡ 0 → ⊥) (within : at < length s) (more : 128 ≤ getD s at 0) where
+  pub read-refused : readAt (k - 1) s (at + 1) ≡ Refused → readAt k s at ≡ Refused
+  unfolding located extend
+  read-refused e = rw (read-rest k s at some within more, located-refused (at + 1) (decode (k - 1) (drop (at + 1) s)) e)
+
+  pub read-long : (v next : ℕ) → readAt (k - 1) s (at + 1) ≡ Value v next → v ≡ 0 → readAt k s at ≡ Refused
+  unfolding located
+  read-long v next e null =
+      let r = located-value (at + 1) (decode (k - 1) (drop (at + 1) s)) v next e in
+      let d : decode (k - 1) (drop (at + 1) s) ≡ number 0 (r .0) = r .1 ∙ ap (λ (w : ℕ). number w (r .0)) null in
+      rw (read-rest k s at some within more, d, extend-zero)
+
+  pub read-value :
+      (v next : ℕ) →
+      readAt (k - 1) s (at + 1) ≡ Value v next →
+      (v ≡ 0 → ⊥) →
+      readAt k s at ≡ Value (getD s at 0 - 128 + 128 * v) next
+  unfolding located
+  read-value v next e pos =
+      let r = located-value (at + 1) (decode (k - 1) (drop (at + 1) s)) v next e in
+      rw (read-rest k s at some within more, r .1, extend-more (getD s at 0 - 128) v (r .0) (omega arith))
+      (ap (λ (n : ℕ). Value (getD s at 0 - 128 + 128 * v) n) (omega arith))
+
+-- A number that was read is below 128 to the number of bytes that were allowed.
+pub read-bound :
+    (k top : ℕ) (s : List ℕ) (at v next : ℕ) →
+    k ≤ top →
+    Bytes s →
+    readAt k s at ≡ Value v next →
+    v < 128 ^ top
+read-bound k top s at v next l h e =
+    let r = located-value at (decode k (drop at s)) v next e in
+    lt-of-lt-of-le
+    (decode-bound k (drop at s) v (r .0) (bytes-drop at s h) (r .1))
+    (pow-le-pow-right (omega arith) l)

@@ -1,0 +1,44 @@
+-- What loops over the numbers below a bound compute: a state, a sum, a test of all, the first hit, a list.
+-- Definitions only. Assumes nothing.
+use Prim.Native.Nat.{ℕ, zero, suc, _+_}
+use mathlib.Core.Bool.{Bool, true, false, cond, _&&_}
+use mathlib.Core.List.{List, [], _∷_, _++_}
+use lib.Dec.{ltb, eqb}
+
+-- The state after `turns` turns of a loop that starts at i: body i, then body (suc i), and so on.
+unfoldable pub scan : {A : Type 0} → (ℕ → A → A) → ℕ → ℕ → A → A
+scan body zero i st = st
+scan body (suc turns) i st = scan body turns (suc i) (body i st)
+
+-- x or y, as b says; only the one that is wanted is computed.
+abbrev pub choose : {A : Type 0} → Bool → (Unit {0} → A) → (Unit {0} → A) → A
+choose true x y = x tt
+choose false x y = y tt
+
+-- The function f with the value x at i.
+abbrev pub put : {A : Type 0} → (ℕ → A) → ℕ → A → ℕ → A
+put f i x j = cond (eqb i j) x (f j)
+
+-- f 0 + f 1 + .. below n.
+unfoldable pub sum : ℕ → (ℕ → ℕ) → ℕ
+sum zero f = zero
+sum (suc n) f = sum n f + f n
+
+-- p holds of every number below n.
+unfoldable pub allBelow : ℕ → (ℕ → Bool) → Bool
+allBelow zero p = true
+allBelow (suc n) p = allBelow n p && p n
+
+-- The lowest number below n of which p holds; n if there is none.
+unfoldable pub first : ℕ → (ℕ → Bool) → ℕ
+first zero p = zero
+first (suc n) p = let r : ℕ = first n p in cond (ltb r n) r (cond (p n) n (suc n))
+
+-- f 0, f 1, .. below n, joined.
+unfoldable pub gather : {A : Type 0} → ℕ → (ℕ → List A) → List A
+gather zero f = []
+gather (suc n) f = gather n f ++ f n
+
+-- The list f 0, f 1, .. below n.
+abbrev pub tabulate : {A : Type 0} → ℕ → (ℕ → A) → List A
+tabulate n f = gather n (λ i. f i ∷ [])

@@ -1,0 +1,55 @@
+-- Laws of tests: a truth value is one of two, a conjunction holds if both parts do, and a test of all numbers below a
+-- bound holds if it holds of each. Assumes nothing.
+use Prim.Native.Nat.{ℕ, zero, suc, _+_, _<_}
+use native.Mathlib.Decide.{decLt}
+use native.Mathlib.Numerals.{add-one}
+use native.Mathlib.Omega.{arith}
+use mathlib.Core.Path.{_≡_, refl, sym, subst, _∙_}
+use mathlib.Core.Logic.{_⊎_, inl, inr}
+use mathlib.Core.Bool.{Bool, true, false, _&&_}
+use Rattle.loops.specs.Loop.{allBelow}
+
+pub truth : (b : Bool) → (b ≡ true) ⊎ (b ≡ false)
+truth true = inl refl
+truth false = inr refl
+
+pub clash {ℓ} : {X : Type ℓ} {b : Bool} → b ≡ true → b ≡ false → X
+clash p q = let z : _≡_ {A = ℕ} 0 1 = cc in absurd (omega arith)
+
+pub and-first : (a b : Bool) → (a && b) ≡ true → a ≡ true
+and-first true b h = refl
+and-first false b h = h
+
+pub and-second : (a b : Bool) → (a && b) ≡ true → b ≡ true
+and-second true b h = h
+and-second false b h = clash h refl
+
+pub and-both : (a b : Bool) → a ≡ true → b ≡ true → (a && b) ≡ true
+and-both a b p q = rw (p, q)
+
+pub all-at : (n : ℕ) (p : ℕ → Bool) → allBelow n p ≡ true → (i : ℕ) → i < n → p i ≡ true
+unfolding allBelow
+all-at zero p h i l = absurd (omega arith)
+all-at (suc n) p h i l =
+    elim (decLt i n) [
+      | yes k ↦ all-at n p (and-first (allBelow n p) (p n) h) i k
+      | no k ↦ let same : n ≡ i = omega arith in subst (λ (j : ℕ). p j ≡ true) same (and-second (allBelow n p) (p n) h)
+    ]
+
+pub all-of : (n : ℕ) (p : ℕ → Bool) → ((i : ℕ) → i < n → p i ≡ true) → allBelow n p ≡ true
+unfolding allBelow
+all-of zero p h = refl
+all-of (suc n) p h = and-both (allBelow n p) (p n) (all-of n p (λ i l. h i (omega arith))) (h n (omega arith))
+
+-- One number of which it does not hold is enough.
+pub all-miss : (n : ℕ) (p : ℕ → Bool) (i : ℕ) → i < n → p i ≡ false → allBelow n p ≡ false
+all-miss n p i l q = missed (truth (allBelow n p))
+  where
+    missed : (allBelow n p ≡ true) ⊎ (allBelow n p ≡ false) → allBelow n p ≡ false
+    missed (inl h) = clash (all-at n p h i l) q
+    missed (inr h) = h
+
+-- A loop that has passed i numbers passes one more.
+pub all-more : (i : ℕ) (p : ℕ → Bool) → allBelow i p ≡ true → p i ≡ true → allBelow (i + 1) p ≡ true
+unfolding allBelow
+all-more i p h q = rw add-one (and-both (allBelow i p) (p i) h q)

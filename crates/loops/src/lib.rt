@@ -1,0 +1,1 @@
+// Theory only: what loops compute stands in specs/.

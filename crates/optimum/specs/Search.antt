@@ -1,0 +1,92 @@
+-- The model of the matching, over any relation between tree ranks and non-tree ranks: the search that follows
+-- alternating paths, and the matching that it builds one tree rank at a time. Definitions only. Assumes nothing.
+use Prim.Native.Nat.{ℕ, zero, suc}
+use mathlib.Core.Bool.{Bool, true, false, cond, not, _&&_, _||_}
+use lib.Dec.{ltb, eqb}
+use Rattle.loops.specs.Loop.{scan, choose, put, first}
+
+-- Tree edges and non-tree edges by rank: how many, whether non-tree rank s covers tree rank t, and their old costs.
+-- Tree ranks go by falling, non-tree ranks by rising cost.
+pub record Problem : Type 0 where
+  pub trees : ℕ
+  pub spares : ℕ
+  pub covers : ℕ → ℕ → Bool
+  pub treeCost : ℕ → ℕ
+  pub spareCost : ℕ → ℕ
+
+-- Which tree rank each non-tree rank is matched to: suc t for t, 0 for none.
+abbrev pub Mates : Type 0
+Mates = ℕ → ℕ
+
+-- The state of a search: the matching, the ranks visited, whether the goal was met.
+pub record Search : Type 0 where
+  pub mates : Mates
+  pub treeSeen : ℕ → Bool
+  pub spareSeen : ℕ → Bool
+  pub met : Bool
+
+abbrev pub seeTree : ℕ → Search → Search
+seeTree t st = record { mates = st .mates; treeSeen = put (st .treeSeen) t true; spareSeen = st .spareSeen; met = st .met }
+
+abbrev pub seeSpare : ℕ → Search → Search
+seeSpare s st = record { mates = st .mates; treeSeen = st .treeSeen; spareSeen = put (st .spareSeen) s true; met = st .met }
+
+abbrev pub match : ℕ → ℕ → Search → Search
+match t s st = record { mates = put (st .mates) s (suc t); treeSeen = st .treeSeen; spareSeen = st .spareSeen; met = st .met }
+
+abbrev pub reachGoal : Search → Search
+reachGoal st = record { mates = st .mates; treeSeen = st .treeSeen; spareSeen = st .spareSeen; met = true }
+
+-- What follows non-tree rank s, just visited from tree rank t, if its mate is `mate`: nothing if it has none or if the
+-- mate was visited; else the mate's own search, with s matched to t meanwhile, and for good if that meets the goal.
+unfoldable pub follow : (ℕ → Search → Search) → ℕ → ℕ → ℕ → Search → Search
+follow visit t s zero st = st
+follow visit t s (suc t′) st =
+    choose (st .treeSeen t′) (λ _. st) λ _.
+    let next : Search = visit t′ (match t s st) in
+    cond (next .met) next (match t′ s next)
+
+-- Tree rank t tries non-tree rank s.
+unfoldable pub tryPartner : ℕ → (ℕ → Search → Search) → ℕ → ℕ → Search → Search
+tryPartner goal visit t s st =
+    choose (eqb s goal)
+    (λ _. reachGoal (match t s (seeSpare s st)))
+    (λ _. follow visit t s (st .mates s) (seeSpare s st))
+
+unfoldable pub trySpare : Problem → ℕ → (ℕ → Search → Search) → ℕ → ℕ → Search → Search
+trySpare p goal visit t s st =
+    choose (st .met || not (p .covers t s) || st .spareSeen s) (λ _. st) (λ _. tryPartner goal visit t s st)
+
+-- Tree rank t visited: it tries every non-tree rank, by rank. The first number bounds how deep the calls go.
+unfoldable pub tryTree : Problem → ℕ → ℕ → ℕ → Search → Search
+tryTree p goal zero t st = st
+tryTree p goal (suc depth) t st = scan (trySpare p goal (tryTree p goal depth) t) (p .spares) 0 (seeTree t st)
+
+abbrev pub search : Problem → ℕ → ℕ → Search → Search
+search p goal t st = tryTree p goal (suc (p .trees)) t st
+
+-- The matching so far, and the ranks that searches which failed have visited: no later one needs them.
+pub record Progress : Type 0 where
+  pub mates : Mates
+  pub treeDead : ℕ → Bool
+  pub spareDead : ℕ → Bool
+
+abbrev pub begun : Progress → Search
+begun pr = record { mates = pr .mates; treeSeen = pr .treeDead; spareSeen = pr .spareDead; met = false }
+
+-- The lowest unmatched non-tree rank that a search has visited and no failed one had before.
+abbrev pub goalOf : Problem → Progress → Search → ℕ
+goalOf p pr st = first (p .spares) (λ s. st .spareSeen s && not (pr .spareDead s) && eqb (pr .mates s) 0)
+
+-- Tree rank t is matched if the cheapest unmatched non-tree edge that alternating paths lead to costs less than it.
+unfoldable pub augment : Problem → ℕ → Progress → Progress
+augment p t pr =
+    let all : Search = search p (p .spares) t (begun pr) in
+    let goal : ℕ = goalOf p pr all in
+    choose (ltb goal (p .spares) && ltb (p .spareCost goal) (p .treeCost t))
+    (λ _. record { mates = search p goal t (begun pr) .mates; treeDead = pr .treeDead; spareDead = pr .spareDead })
+    (λ _. record { mates = pr .mates; treeDead = all .treeSeen; spareDead = all .spareSeen })
+
+-- The matching: every tree rank in turn.
+abbrev pub matching : Problem → Mates
+matching p = scan (augment p) (p .trees) 0 (record { mates = λ _. 0; treeDead = λ _. false; spareDead = λ _. false }) .mates

@@ -1,0 +1,2 @@
+-- The bench rows.
+pub mod Rows
