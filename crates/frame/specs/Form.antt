@@ -1,22 +1,26 @@
--- Questions 1 to 5: what is computed is the first question whose answer is "no", by what the questions mean.
+-- Questions 1 to 6: what is computed is the first question whose answer is "no", by what the questions mean.
 -- Assumes nothing.
 use Prim.Native.Nat.{ℕ, zero, suc, _+_, _*_, _<_, _≤_}
 use native.Mathlib.Omega.{arith}
-use mathlib.Core.Path.{_≡_, refl, sym, subst, ap, _∙_}
+use mathlib.Core.Path.{_≡_, refl, ap, _∙_}
 use mathlib.Core.Logic.{_↔_, _⊎_, inl, inr, ⊎-elim}
 use mathlib.Core.Bool.{Bool, true, false, not, _&&_}
-use mathlib.Core.List.{List, [], _∷_}
+use mathlib.Core.List.{List}
 use mathlib.Core.Option.{Option, some}
 use lib.Dec.{leb, ltb, eqb}
-use lib.ListN.{length, getD}
+use lib.ListN.{length}
 use borrow.Author.Tests.{leb-true, ltb-true, eqb-true, eqb-false, le-leb, lt-ltb, eq-eqb, ne-eqb, not-true}
-use Rattle.loops.specs.TestLaws.{truth, clash, and-first, and-second, and-both, all-at, all-of}
+use Rattle.loops.specs.Loop.{choose}
+use Rattle.loops.specs.TestLaws.{truth, clash, and-first, and-second, all-at, all-of}
 use Rattle.leb128.specs.Number.{Bytes}
-use Rattle.frame.specs.Job.{Job, link, maxNodes, maxEdges}
-use Rattle.frame.specs.Questions.{numbers, nodeCount, edgeCount, jobFrom, question1, question2, question3, question4, question5, ask, numberQuestions, formRefusal}
-use Rattle.frame.specs.Meaning.{Divides, Counted, Complete, EndsHold, MarksHold, FirstNo}
-use Rattle.frame.specs.Meaning.FirstNo.{no1, no2, no3, no4, no5, none}
-use Rattle.frame.specs.Division.{division, division-unique}
+use Rattle.graph.specs.Graph.{Sound}
+use Rattle.graph.specs.RankLaws.{tree-lists}
+use Rattle.graph.specs.Tree.{tree-means}
+use Rattle.frame.specs.Job.{Job, link, maxNodes, maxEdges, graphOf, treeOf, costOf}
+use Rattle.frame.specs.Questions.{numbers, nodeCount, edgeCount, jobFrom, question1, question2, question3, question4, question5, question6, ask, numberQuestions, formRefusal, refusal}
+use Rattle.frame.specs.Meaning.{Divides, Counted, Complete, EndsHold, MarksHold, TreeHolds, Formed, FirstNo}
+use Rattle.frame.specs.Meaning.FirstNo.{no1, no2, no3, no4, no5, no6, none}
+use Rattle.frame.specs.Division.{division}
 
 pub question2-means : (ns : List ℕ) → (question2 ns ≡ true) ↔ Counted ns
 unfolding question2
@@ -86,63 +90,105 @@ question5-means j = (
   λ h. all-of (length (j .links)) (λ e. leb (link j e .mark) 1) (λ e l. mark-means (link j e .mark) .1 (h e l)),
 )
 
+-- Question 4 makes the graph sound.
+pub ends-sound : (j : Job) → EndsHold j → Sound (graphOf j)
+ends-sound j h = record { first = h .first; second = h .second; differ = h .differ }
+
+pub question6-means : (j : Job) → 1 ≤ j .nodes → EndsHold j → (question6 j ≡ true) ↔ TreeHolds j
+unfolding question6
+question6-means j l h = tree-means (ends-sound j h) (tree-lists (graphOf j) (treeOf j) (costOf j)) l (λ e b t. refl)
+
 -- A question is answered "no" exactly where what it means does not hold.
 refutes : {A : Type 0} {b : Bool} → (b ≡ true) ↔ A → b ≡ false → A → ⊥
 refutes means n a = clash (means .1 a) n
 
-refuted : {A : Type 0} {b : Bool} → (b ≡ true) ↔ A → (A → ⊥) → b ≡ false
+pub refuted : {A : Type 0} {b : Bool} → (b ≡ true) ↔ A → (A → ⊥) → b ≡ false
 refuted {b = b} means n = ⊎-elim (λ y. absurd (n (means .0 y))) (λ f. f) (truth b)
 
 -- The questions in turn, each by the two words that it may have.
 module _ (s ns : List ℕ) (d : Divides s ns) where
-  form5 : Counted ns → Complete ns → EndsHold (jobFrom ns) → FirstNo s (ask (question5 (jobFrom ns)) 5 λ _. 0)
-  form5 h₂ h₃ h₄ =
+  turn6 : Formed s ns → FirstNo s (ask (question6 (jobFrom ns)) 6 λ _. 0)
+  turn6 f =
+      let means = question6-means (jobFrom ns) (f .counted .some-node) (f .ends) in
+      ⊎-elim (λ y. rw y (none ns f (means .0 y))) (λ n. rw n (no6 ns f (refutes means n))) (truth (question6 (jobFrom ns)))
+
+  turn5 : Counted ns → Complete ns → EndsHold (jobFrom ns) → FirstNo s (ask (question5 (jobFrom ns)) 5 λ _. ask (question6 (jobFrom ns)) 6 λ _. 0)
+  turn5 h₂ h₃ h₄ =
       ⊎-elim
-      (λ y. rw y (none ns d h₂ h₃ h₄ (question5-means (jobFrom ns) .0 y)))
+      (λ y. rw y (turn6 (record { divides = d; counted = h₂; complete = h₃; ends = h₄; marks = question5-means (jobFrom ns) .0 y })))
       (λ n. rw n (no5 ns d h₂ h₃ h₄ (refutes (question5-means (jobFrom ns)) n)))
       (truth (question5 (jobFrom ns)))
 
-  form4 : Counted ns → Complete ns → FirstNo s (ask (question4 (jobFrom ns)) 4 λ _. ask (question5 (jobFrom ns)) 5 λ _. 0)
-  form4 h₂ h₃ =
+  turn4 : Counted ns → Complete ns → FirstNo s (ask (question4 (jobFrom ns)) 4 λ _. ask (question5 (jobFrom ns)) 5 λ _. ask (question6 (jobFrom ns)) 6 λ _. 0)
+  turn4 h₂ h₃ =
       ⊎-elim
-      (λ y. rw y (form5 h₂ h₃ (question4-means (jobFrom ns) .0 y)))
+      (λ y. rw y (turn5 h₂ h₃ (question4-means (jobFrom ns) .0 y)))
       (λ n. rw n (no4 ns d h₂ h₃ (refutes (question4-means (jobFrom ns)) n)))
       (truth (question4 (jobFrom ns)))
 
-  form3 : Counted ns → FirstNo s (ask (question3 ns) 3 λ _. ask (question4 (jobFrom ns)) 4 λ _. ask (question5 (jobFrom ns)) 5 λ _. 0)
-  form3 h₂ =
+  turn3 : Counted ns → FirstNo s (ask (question3 ns) 3 λ _. ask (question4 (jobFrom ns)) 4 λ _. ask (question5 (jobFrom ns)) 5 λ _. ask (question6 (jobFrom ns)) 6 λ _. 0)
+  turn3 h₂ =
       ⊎-elim
-      (λ y. rw y (form4 h₂ (question3-means ns .0 y)))
+      (λ y. rw y (turn4 h₂ (question3-means ns .0 y)))
       (λ n. rw n (no3 ns d h₂ (refutes (question3-means ns) n)))
       (truth (question3 ns))
 
-  form2 : FirstNo s (numberQuestions (λ _. 0) ns)
-  form2 =
+  turn2 : FirstNo s (numberQuestions (λ j. ask (question6 j) 6 λ _. 0) ns)
+  turn2 =
       ⊎-elim
-      (λ y. rw y (form3 (question2-means ns .0 y)))
+      (λ y. rw y (turn3 (question2-means ns .0 y)))
       (λ n. rw n (no2 ns d (refutes (question2-means ns) n)))
       (truth (question2 ns))
 
-form1 : (s : List ℕ) → Bytes s → (r : Option (List ℕ)) → numbers s ≡ r → FirstNo s (question1 r (numberQuestions λ _. 0))
-form1 s h (some ns) e = form2 s ns (division s ns h .0 e)
-form1 s h Option.none e = no1 (λ ns d. let z : _≡_ {A = ℕ} 0 1 = cc (division s ns h .1 d) in omega arith)
+-- Numbers that pass questions 2 to 5.
+pub formed-pass : {s ns : List ℕ} → Formed s ns → (rest : Job → ℕ) → numberQuestions rest ns ≡ rest (jobFrom ns)
+formed-pass {ns = ns} f rest =
+    rw (question2-means ns .1 (f .counted), question3-means ns .1 (f .complete), question4-means (jobFrom ns) .1 (f .ends), question5-means (jobFrom ns) .1 (f .marks))
+
+turn1 : (s : List ℕ) → Bytes s → (r : Option (List ℕ)) → numbers s ≡ r → FirstNo s (question1 r (numberQuestions λ j. ask (question6 j) 6 λ _. 0))
+turn1 s h (some ns) e = turn2 s ns (division s ns h .0 e)
+turn1 s h Option.none e = no1 (λ ns d. let z : _≡_ {A = ℕ} 0 1 = cc (division s ns h .1 d) in omega arith)
 
 -- What is computed is the first question whose answer is "no".
-pub form : (s : List ℕ) → Bytes s → FirstNo s (formRefusal s)
-form s h = form1 s h (numbers s) refl
+pub first-no : (s : List ℕ) → Bytes s → FirstNo s (refusal s)
+first-no s h = turn1 s h (numbers s) refl
 
 -- There is one first "no" only.
-pub form-unique : (s : List ℕ) (r : ℕ) → Bytes s → FirstNo s r → formRefusal s ≡ r
-form-unique s r h (no1 q) = ⊎-elim (λ e. rw e) (λ e. absurd (q (e .0) (division s (e .0) h .0 (e .1)))) (either (numbers s))
+pub first-no-unique : (s : List ℕ) (r : ℕ) → Bytes s → FirstNo s r → refusal s ≡ r
+first-no-unique s r h (no1 q) = ⊎-elim (λ e. rw e) (λ e. absurd (q (e .0) (division s (e .0) h .0 (e .1)))) (either (numbers s))
   where
     either : (o : Option (List ℕ)) → (o ≡ Option.none) ⊎ ((ns : List ℕ) × (o ≡ some ns))
     either (some ns) = inr (ns, refl)
     either Option.none = inl refl
-form-unique s r h (no2 ns d q) = rw (division s ns h .1 d, refuted (question2-means ns) q)
-form-unique s r h (no3 ns d h₂ q) = rw (division s ns h .1 d, question2-means ns .1 h₂, refuted (question3-means ns) q)
-form-unique s r h (no4 ns d h₂ h₃ q) =
+first-no-unique s r h (no2 ns d q) = rw (division s ns h .1 d, refuted (question2-means ns) q)
+first-no-unique s r h (no3 ns d h₂ q) = rw (division s ns h .1 d, question2-means ns .1 h₂, refuted (question3-means ns) q)
+first-no-unique s r h (no4 ns d h₂ h₃ q) =
     rw (division s ns h .1 d, question2-means ns .1 h₂, question3-means ns .1 h₃, refuted (question4-means (jobFrom ns)) q)
-form-unique s r h (no5 ns d h₂ h₃ h₄ q) =
+first-no-unique s r h (no5 ns d h₂ h₃ h₄ q) =
     rw (division s ns h .1 d, question2-means ns .1 h₂, question3-means ns .1 h₃, question4-means (jobFrom ns) .1 h₄, refuted (question5-means (jobFrom ns)) q)
-form-unique s r h (none ns d h₂ h₃ h₄ h₅) =
-    rw (division s ns h .1 d, question2-means ns .1 h₂, question3-means ns .1 h₃, question4-means (jobFrom ns) .1 h₄, question5-means (jobFrom ns) .1 h₅)
+first-no-unique s r h (no6 ns f q) =
+    rw (division s ns h .1 (f .divides), formed-pass f (λ j. ask (question6 j) 6 λ _. 0), refuted (question6-means (jobFrom ns) (f .counted .some-node) (f .ends)) q)
+first-no-unique s r h (none ns f t) =
+    rw (division s ns h .1 (f .divides), formed-pass f (λ j. ask (question6 j) 6 λ _. 0), question6-means (jobFrom ns) (f .counted .some-node) (f .ends) .1 t)
+
+-- Questions 1 to 5 alone say the same, but that nothing is refused by question 6.
+abbrev pub beforeTree : ℕ → ℕ
+beforeTree r = choose (ltb r 6) (λ _. r) (λ _. 0)
+
+first-five : (b₂ b₃ b₄ b₅ b₆ : Bool) → (ask b₂ 2 λ _. ask b₃ 3 λ _. ask b₄ 4 λ _. ask b₅ 5 λ _. 0) ≡ beforeTree (ask b₂ 2 λ _. ask b₃ 3 λ _. ask b₄ 4 λ _. ask b₅ 5 λ _. ask b₆ 6 λ _. 0)
+first-five false b₃ b₄ b₅ b₆ = refl
+first-five true false b₄ b₅ b₆ = refl
+first-five true true false b₅ b₆ = refl
+first-five true true true false b₆ = refl
+first-five true true true true false = refl
+first-five true true true true true = refl
+
+pub form-refusal : (s : List ℕ) → formRefusal s ≡ beforeTree (refusal s)
+form-refusal s = of (numbers s)
+  where
+    of : (r : Option (List ℕ)) → question1 r (numberQuestions λ _. 0) ≡ beforeTree (question1 r (numberQuestions λ j. ask (question6 j) 6 λ _. 0))
+    of (some ns) = first-five (question2 ns) (question3 ns) (question4 (jobFrom ns)) (question5 (jobFrom ns)) (question6 (jobFrom ns))
+    of Option.none = refl
+
+pub form : (s : List ℕ) (r : ℕ) → Bytes s → FirstNo s r → formRefusal s ≡ beforeTree r
+form s r h q = form-refusal s ∙ ap beforeTree (first-no-unique s r h q)

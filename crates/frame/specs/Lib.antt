@@ -8,3 +8,9 @@ pub mod Division
 pub mod Form
 pub mod RoundTrip
 pub mod Lists
+pub mod Accepted
+pub mod AnswerLayout
+pub mod AnswerJudge
+pub mod Finders
+pub mod OwnAnswer
+pub mod Outcomes

@@ -1,20 +1,20 @@
 -- A list of links is refused as its frame is, and a frame written of one reads as that list. Assumes nothing.
-use Prim.Native.Nat.{ℕ, zero, suc, _+_, _*_, _<_, _≤_}
+use Prim.Native.Nat.{ℕ, suc, _*_, _<_, _≤_}
 use native.Mathlib.Omega.{arith}
-use mathlib.Core.Path.{_≡_, refl, sym, subst, ap, _∙_}
+use mathlib.Core.Path.{_≡_, refl, sym, ap, _∙_}
 use mathlib.Core.Logic.{_⊎_, ⊎-elim}
 use mathlib.Core.Bool.{Bool, true, false, _&&_}
 use mathlib.Core.List.{List, [], _∷_, _++_, flatMap}
-use mathlib.Core.Option.{Option, some}
+use mathlib.Core.Option.{some}
 use lib.Dec.{leb}
 use lib.ListN.{length, getD, length-append}
 use borrow.Author.Tests.{leb-true, le-leb}
 use Rattle.loops.specs.Loop.{allBelow}
-use Rattle.loops.specs.TestLaws.{truth, clash, and-first, and-second, and-both, all-at}
+use Rattle.loops.specs.TestLaws.{and-first, and-second, all-at}
 use Rattle.leb128.specs.Number.{encode}
 use Rattle.leb128.specs.Laws.{encode-size-last, encode-size-most}
 use Rattle.frame.specs.Job.{Edge, Job, noEdge, link, fields, maxNodes, maxEdges, maxNumber, numberBytes, jobNumbers, bytesOf, jobFrame}
-use Rattle.frame.specs.Questions.{jobOf, numbers, question1, question2, question3, question4, question5, ask, numberQuestions, formRefusal}
+use Rattle.frame.specs.Questions.{jobOf, numbers, question1, question2, question4, question5, ask, numberQuestions, formRefusal}
 use Rattle.frame.specs.Services.{smallEdge, small, counted, listQuestions, listFormRefusal}
 use Rattle.frame.specs.Meaning.{Small, Complete, EndsHold, MarksHold}
 use Rattle.frame.specs.Division.{small-cons, divide-complete}
@@ -51,7 +51,7 @@ unfolding flatMap
 small-links [] h = λ i. omega arith
 small-links (l ∷ ls) h = small-link l (h 0 (omega arith)) (flatMap fields ls) (small-links ls (λ e k. h (suc e) (omega arith)))
 
-small-job : (j : Job) → small j ≡ true → Small (jobNumbers j)
+pub small-job : (j : Job) → small j ≡ true → Small (jobNumbers j)
 unfolding small
 small-job j h =
     small-cons (j .nodes) (length (j .links) ∷ flatMap fields (j .links)) (leb-true (j .nodes) maxNumber (and-first n m nm))
@@ -92,7 +92,7 @@ list-as-frame rest j h =
     rw (h, list-numbers j h, list-counted j, question3-means (jobNumbers j) .1 (list-complete j), numbers-job j)
 
 -- A question passed: its answer was "yes", and the rest passed too.
-ask-passed : (b : Bool) (n : ℕ) (rest : Unit {0} → ℕ) → ask b (suc n) rest ≡ 0 → (b ≡ true) × (rest tt ≡ 0)
+pub ask-passed : (b : Bool) (n : ℕ) (rest : Unit {0} → ℕ) → ask b (suc n) rest ≡ 0 → (b ≡ true) × (rest tt ≡ 0)
 ask-passed true n rest h = (refl, h)
 ask-passed false n rest h = absurd (omega arith)
 
@@ -103,19 +103,25 @@ pub record Listed (j : Job) : Type 0 where
   pub ends : EndsHold j
   pub marks : MarksHold j
 
+pub list-passed : (rest : Job → ℕ) (j : Job) → listQuestions rest j ≡ 0 → Listed j × (rest j ≡ 0)
+list-passed rest j h =
+    let (y₁, r₁) = ask-passed (small j) 0 (λ _. ask (counted j) 2 λ _. ask (question4 j) 4 λ _. ask (question5 j) 5 λ _. rest j) h in
+    let (y₂, r₂) = ask-passed (counted j) 1 (λ _. ask (question4 j) 4 λ _. ask (question5 j) 5 λ _. rest j) r₁ in
+    let (y₄, r₄) = ask-passed (question4 j) 3 (λ _. ask (question5 j) 5 λ _. rest j) r₂ in
+    let (y₅, r₅) = ask-passed (question5 j) 4 (λ _. rest j) r₄ in
+    (record { small = y₁; counted = y₂; ends = question4-means j .0 y₄; marks = question5-means j .0 y₅ }, r₅)
+
 pub listed : (j : Job) → listFormRefusal j ≡ 0 → Listed j
-listed j h =
-    let (y₁, r₁) = ask-passed (small j) 0 (λ _. ask (counted j) 2 λ _. ask (question4 j) 4 λ _. ask (question5 j) 5 λ _. 0) h in
-    let (y₂, r₂) = ask-passed (counted j) 1 (λ _. ask (question4 j) 4 λ _. ask (question5 j) 5 λ _. 0) r₁ in
-    let (y₄, r₄) = ask-passed (question4 j) 3 (λ _. ask (question5 j) 5 λ _. 0) r₂ in
-    let (y₅, r₅) = ask-passed (question5 j) 4 (λ _. 0) r₄ in
-    record { small = y₁; counted = y₂; ends = question4-means j .0 y₄; marks = question5-means j .0 y₅ }
+listed j h = list-passed (λ _. 0) j h .0
 
 -- What is written of a list of links that passes questions 1 to 5 passes them too and reads as that list.
+pub list-read : (j : Job) → small j ≡ true → jobOf (jobFrame j) ≡ j
+list-read j y = rw (list-numbers j y) (numbers-job j)
+
 pub read-write : (j : Job) → listFormRefusal j ≡ 0 → (formRefusal (jobFrame j) ≡ 0) × (jobOf (jobFrame j) ≡ j)
 read-write j h =
     let y = listed j h .small in
-    (sym (list-as-frame (λ _. 0) j y) ∙ h, rw (list-numbers j y) (numbers-job j))
+    (sym (list-as-frame (λ _. 0) j y) ∙ h, list-read j y)
 
 pub counted-limits : (j : Job) → counted j ≡ true → (1 ≤ j .nodes) × (j .nodes ≤ maxNodes) × (length (j .links) ≤ maxEdges)
 unfolding counted

@@ -39,11 +39,24 @@ pub record EndsHold (j : Job) : Type 0 where
 abbrev pub MarksHold : Job → Type 0
 MarksHold j = (e : ℕ) → e < length (j .links) → (link j e .mark ≡ 0) ⊎ (link j e .mark ≡ 1)
 
--- The first question of 1 to 5 whose answer is "no"; 0 if none is. The questions before it have the answer "yes".
+-- 6. There are (stations − 1) tree links, and they join all stations.
+abbrev pub TreeHolds : Job → Type 0
+TreeHolds j = SpanningTree (graphOf j) (treeOf j)
+
+-- A frame that passes questions 1 to 5: its numbers, with what the questions mean of them.
+pub record Formed (s ns : List ℕ) : Type 0 where
+  pub divides : Divides s ns
+  pub counted : Counted ns
+  pub complete : Complete ns
+  pub ends : EndsHold (jobFrom ns)
+  pub marks : MarksHold (jobFrom ns)
+
+-- The first question of 1 to 6 whose answer is "no"; 0 if none is. The questions before it have the answer "yes".
 pub data FirstNo (s : List ℕ) : ℕ → Type 0 where
   no1 : ((ns : List ℕ) → Divides s ns → ⊥) → FirstNo s 1
   no2 : (ns : List ℕ) → Divides s ns → (Counted ns → ⊥) → FirstNo s 2
   no3 : (ns : List ℕ) → Divides s ns → Counted ns → (Complete ns → ⊥) → FirstNo s 3
   no4 : (ns : List ℕ) → Divides s ns → Counted ns → Complete ns → (EndsHold (jobFrom ns) → ⊥) → FirstNo s 4
   no5 : (ns : List ℕ) → Divides s ns → Counted ns → Complete ns → EndsHold (jobFrom ns) → (MarksHold (jobFrom ns) → ⊥) → FirstNo s 5
-  none : (ns : List ℕ) → Divides s ns → Counted ns → Complete ns → EndsHold (jobFrom ns) → MarksHold (jobFrom ns) → FirstNo s 0
+  no6 : (ns : List ℕ) → Formed s ns → (TreeHolds (jobFrom ns) → ⊥) → FirstNo s 6
+  none : (ns : List ℕ) → Formed s ns → TreeHolds (jobFrom ns) → FirstNo s 0

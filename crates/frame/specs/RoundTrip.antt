@@ -7,11 +7,11 @@ use mathlib.Core.List.{List, [], _∷_, _++_, flatMap, append-assoc}
 use lib.ListN.{length, drop, length-drop}
 use Rattle.leb128.specs.Number.{Bytes}
 use Rattle.frame.specs.Job.{Edge, Job, fields, jobNumbers, bytesOf, jobFrame}
-use Rattle.frame.specs.Questions.{linksOf, nodeCount, edgeCount, jobFrom, jobOf, formRefusal}
-use Rattle.frame.specs.Meaning.{Divides, Counted, Complete, EndsHold, MarksHold, FirstNo}
-use Rattle.frame.specs.Meaning.FirstNo.{no1, no2, no3, no4, no5, none}
+use Rattle.frame.specs.Questions.{linksOf, nodeCount, edgeCount, jobFrom, jobOf, formRefusal, refusal}
+use Rattle.frame.specs.Meaning.{Divides, Complete, Formed, FirstNo}
+use Rattle.frame.specs.Meaning.FirstNo.{no1, no2, no3, no4, no5, no6, none}
 use Rattle.frame.specs.Division.{division}
-use Rattle.frame.specs.Form.{form}
+use Rattle.frame.specs.Form.{first-no, beforeTree, form-refusal}
 
 pub flatMap-append : {A B : Type 0} (f : A → List B) (xs ys : List A) → flatMap f (xs ++ ys) ≡ flatMap f xs ++ flatMap f ys
 unfolding flatMap
@@ -60,25 +60,18 @@ job-numbers ns l e =
 pub numbers-job : (j : Job) → jobFrom (jobNumbers j) ≡ j
 numbers-job j = ap (λ (ls : List Edge). record { nodes = j .nodes; links = ls }) (numbers-links (j .links))
 
--- A frame that passes questions 1 to 5: its numbers, with what the questions mean of them.
-pub record Formed (s ns : List ℕ) : Type 0 where
-  pub divides : Divides s ns
-  pub counted : Counted ns
-  pub complete : Complete ns
-  pub ends : EndsHold (jobFrom ns)
-  pub marks : MarksHold (jobFrom ns)
-
-formed-of : (s : List ℕ) (r : ℕ) → FirstNo s r → r ≡ 0 → (ns : List ℕ) × Formed s ns
+-- The numbers of a frame that passes questions 1 to 5.
+formed-of : (s : List ℕ) (r : ℕ) → FirstNo s r → beforeTree r ≡ 0 → (ns : List ℕ) × Formed s ns
 formed-of s r (no1 q) e = absurd (omega arith)
 formed-of s r (no2 ns d q) e = absurd (omega arith)
 formed-of s r (no3 ns d h₂ q) e = absurd (omega arith)
 formed-of s r (no4 ns d h₂ h₃ q) e = absurd (omega arith)
 formed-of s r (no5 ns d h₂ h₃ h₄ q) e = absurd (omega arith)
-formed-of s r (none ns d h₂ h₃ h₄ h₅) e =
-    (ns, record { divides = d; counted = h₂; complete = h₃; ends = h₄; marks = h₅ })
+formed-of s r (no6 ns f q) e = (ns, f)
+formed-of s r (none ns f t) e = (ns, f)
 
 pub formed : (s : List ℕ) → Bytes s → formRefusal s ≡ 0 → (ns : List ℕ) × Formed s ns
-formed s h e = formed-of s (formRefusal s) (form s h) e
+formed s h e = formed-of s (refusal s) (first-no s h) (sym (form-refusal s) ∙ e)
 
 pub job-of : (s ns : List ℕ) → Bytes s → Divides s ns → jobOf s ≡ jobFrom ns
 job-of s ns h d = rw (division s ns h .1 d)

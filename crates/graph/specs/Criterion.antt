@@ -8,9 +8,10 @@ use mathlib.Core.Logic.{_↔_, _≢_, inl, inr}
 use mathlib.Core.Bool.{Bool, true, false, not, _&&_, and-false, true≢false, false≢true}
 use lib.IntN.{ℤ}
 use lib.Signed.{_≤ℤ_, ≤ℤ-refl}
+use Rattle.loops.specs.FirstLaws.{member-or-none}
 use Rattle.graph.specs.Graph.{Graph, Sound, EdgeSet, count, SpanningTree, total, Minimum, Covers}
 use Rattle.graph.specs.Integers.{≤ℤ-trans, exchange}
-use Rattle.graph.specs.Sums.{member-differs, count-change, count-squeeze, total-same, member-or-none}
+use Rattle.graph.specs.CountLaws.{member-differs, count-change, count-squeeze, total-same}
 use Rattle.graph.specs.Walks.{walk-member, Simple, simple-walk}
 use Rattle.graph.specs.Sides.{Cut, side-changes, crossing, tree-side, tree-cut}
 use Rattle.graph.specs.Swap.{swap, swap-out, swap-other, swap-total, swap-tree}

@@ -1,28 +1,30 @@
--- Order and sum of integers: a ≤ b exactly when some natural number added to a gives b; hence the order is transitive and sums keep it.
+-- Order and sum of integers: of natural numbers it is theirs; a ≤ b exactly when some natural number added to a gives b; hence the order is transitive and sums keep it.
 -- Assumes nothing.
 use Prim.Native.Nat.{ℕ, suc, _+_, _-_, _≤_, _<_}
 use native.Mathlib.Omega.{arith}
 use mathlib.Core.Path.{_≡_, sym, ap, _∙_, subst}
 use mathlib.Core.Logic.{_↔_}
-use mathlib.Core.Bool.{Bool, true, false, not, cond}
-use lib.Dec.{T, ltb, leb→le, le→leb, ltb→lt, nltb→le}
+use lib.Dec.{ltb, leb→le, le→leb}
 use lib.IntN.{ℤ, pos, negsuc, negℤ, _+ℤ_, +ℤ-assoc, +ℤ-comm, +ℤ-negℤ-cancel}
 use lib.Signed.{_≤ℤ_, leZ-yes}
+use borrow.Author.Tests.{ltb-true, ltb-false}
+use Rattle.loops.specs.TestLaws.{cond-both}
 
--- Of a choice, what holds of both sides.
-cond-both : (c : Bool) {x y : ℤ} (P : ℤ → Type 0) → (T c → P x) → (T (not c) → P y) → P (cond c x y)
-cond-both true P f g = f tt
-cond-both false P f g = g tt
+pub pos-le : {m n : ℕ} → m ≤ n → pos m ≤ℤ pos n
+pos-le {m} {n} h = leZ-yes (le→leb m n h)
+
+pub le-pos : {m n : ℕ} → pos m ≤ℤ pos n → m ≤ n
+le-pos {m} {n} h = leb→le m n (h .le)
 
 -- The natural number that leads from a up to b.
 gap : (a b : ℤ) → a ≤ℤ b → (n : ℕ) × (a +ℤ pos n ≡ b)
-gap (pos a) (pos b) h = (b - a, ap pos (rest (leb→le a b (h .le))))
+gap (pos a) (pos b) h = (b - a, ap pos (rest (le-pos h)))
   where
     rest : a ≤ b → a + (b - a) ≡ b
     rest k = omega arith
 gap (pos a) (negsuc b) h = absurd (h .le)
 gap (negsuc a) (pos b) h =
-    (b + suc a, cond-both (ltb (b + suc a) (suc a)) (λ z. z ≡ pos b) (λ t. absurd (short (ltb→lt (b + suc a) (suc a) t))) (λ t. ap pos rest))
+    (b + suc a, cond-both (λ z. z ≡ pos b) (ltb (b + suc a) (suc a)) _ _ (λ t. absurd (short (ltb-true (b + suc a) (suc a) t))) (λ t. ap pos rest))
   where
     short : b + suc a < suc a → ⊥
     short k = omega arith
@@ -30,7 +32,7 @@ gap (negsuc a) (pos b) h =
     rest : b + suc a - suc a ≡ b
     rest = omega arith
 gap (negsuc a) (negsuc b) h =
-    (a - b, cond-both (ltb (a - b) (suc a)) (λ z. z ≡ negsuc b) (λ t. ap negsuc (rest (leb→le b a (h .le)))) (λ t. absurd (short (nltb→le (a - b) (suc a) t))))
+    (a - b, cond-both (λ z. z ≡ negsuc b) (ltb (a - b) (suc a)) _ _ (λ t. ap negsuc (rest (leb→le b a (h .le)))) (λ t. absurd (short (ltb-false (a - b) (suc a) t))))
   where
     short : suc a ≤ a - b → ⊥
     short k = omega arith
@@ -39,9 +41,9 @@ gap (negsuc a) (negsuc b) h =
     rest k = omega arith
 
 above : (a : ℤ) (n : ℕ) → a ≤ℤ (a +ℤ pos n)
-above (pos a) n = leZ-yes (le→leb a (a + n) (omega arith))
+above (pos a) n = pos-le (omega arith)
 above (negsuc a) n =
-    cond-both (ltb n (suc a)) (λ z. negsuc a ≤ℤ z) (λ t. leZ-yes (le→leb (suc a - suc n) a (omega arith))) (λ t. leZ-yes tt)
+    cond-both (λ z. negsuc a ≤ℤ z) (ltb n (suc a)) _ _ (λ t. leZ-yes (le→leb (suc a - suc n) a (omega arith))) (λ t. leZ-yes tt)
 
 pub ≤ℤ-trans : {a b c : ℤ} → a ≤ℤ b → b ≤ℤ c → a ≤ℤ c
 ≤ℤ-trans {a} {b} {c} h k =

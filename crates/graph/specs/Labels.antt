@@ -7,8 +7,9 @@ use mathlib.Core.Path.{_≡_, refl, sym, ap, _∙_}
 use mathlib.Core.Logic.{_↔_, _≢_, inl, inr, ite, if-pos, if-neg}
 use mathlib.Core.Bool.{Bool, true, false, cond, decide, decide-iff}
 use mathlib.Core.List.{List}
+use Rattle.loops.specs.FoldLaws.{last-or-below}
 use Rattle.graph.specs.Graph.{Graph, EdgeSet, forth, back, Walk, stop, step, Joined, count}
-use Rattle.graph.specs.Sums.{last-or-below, count-all, count-but-one, count-one}
+use Rattle.graph.specs.CountLaws.{count-all, count-but-one, count-one}
 use Rattle.graph.specs.Walks.{joined-refl, joined-edge, joined-trans, joined-sym}
 
 -- The nodes labelled like a take the label of b.

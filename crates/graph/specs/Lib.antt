@@ -2,10 +2,12 @@
 pub mod Graph
 pub mod Rank
 pub mod Paths
+pub mod RankLaws
 pub mod Integers
-pub mod Sums
+pub mod CountLaws
 pub mod Walks
 pub mod Labels
 pub mod Sides
 pub mod Swap
 pub mod Criterion
+pub mod Tree

@@ -7,8 +7,10 @@ use mathlib.Core.Path.{_≡_, refl, sym, ap, _∙_}
 use mathlib.Core.Logic.{_↔_, _≢_, inl, inr}
 use mathlib.Core.Bool.{Bool, true, false, decide, decide-iff, Bool-discrete}
 use mathlib.Core.List.{List, List·Memᴰ, List·Memᴰ·head, List·Memᴰ·tail, List·Memᴰ·not-nil, List·Memᴰ·cases-cons, Memᴰ·cast}
+use Rattle.loops.specs.Loop.{put}
+use Rattle.loops.specs.PutLaws.{put-other}
 use Rattle.graph.specs.Graph.{Graph, EdgeSet, Leads, forth, back, Walk, stop, step, Joined, SpanningTree, NoneTwice, Covers}
-use Rattle.graph.specs.Sums.{put, put-other, count-put}
+use Rattle.graph.specs.CountLaws.{count-put}
 use Rattle.graph.specs.Walks.{joined-edge, joined-through, member?, Simple, simple-walk}
 use Rattle.graph.specs.Labels.{label, label-edge, joined-label, counting}
 

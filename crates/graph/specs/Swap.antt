@@ -8,9 +8,11 @@ use mathlib.Core.Logic.{_≢_}
 use mathlib.Core.Bool.{Bool, true, false, false≢true, Bool-discrete}
 use mathlib.Core.List.{Memᴰ·cast}
 use lib.IntN.{ℤ, _+ℤ_, +ℤ-idr}
+use Rattle.loops.specs.Loop.{put}
+use Rattle.loops.specs.PutLaws.{put-same, put-other}
 use Rattle.graph.specs.Graph.{Graph, Sound, EdgeSet, Leads, forth, back, Joined, count, SpanningTree, total}
 use Rattle.graph.specs.Integers.{+ℤ-swap}
-use Rattle.graph.specs.Sums.{put, put-same, put-other, member-differs, count-put, total-put}
+use Rattle.graph.specs.CountLaws.{member-differs, count-put, total-put}
 use Rattle.graph.specs.Walks.{joined-edge, joined-trans, joined-through, walk-within, Simple, simple-walk}
 use Rattle.graph.specs.Sides.{Cut, side-changes}
 

@@ -4,10 +4,14 @@ use Prim.Native.Nat.{ℕ, zero, suc, _+_, _-_, _<_, _≤_}
 use native.Mathlib.Numerals.{add-one}
 use native.Mathlib.Omega.{arith}
 use mathlib.Core.Path.{_≡_, refl, sym, ap, subst, _∙_}
+use mathlib.Core.Bool.{true, false}
 use mathlib.Core.List.{List, [], _∷_}
 use mathlib.Core.Option.{Option, some, none, Option·map}
-use lib.ListN.{length, drop, length-drop, drop-of-length-le}
+use lib.ListN.{length, set, drop, length-drop, drop-of-length-le}
 use lib.Seq.{drop-drop}
+use borrow.Author.Tests.{lt-ltb, le-ltb, eq-eqb, ne-eqb}
+use Rattle.loops.specs.Loop.{scan}
+use Rattle.loops.specs.ScanLaws.{scan-turn}
 use Rattle.leb128.specs.Number.{Decoded, decode, located, readAt}
 use Rattle.leb128.specs.Number.Decoded.{number}
 use Rattle.leb128.specs.declared.Number.the-variants as Read
@@ -18,7 +22,7 @@ use Rattle.frame.specs.Division.{divide-end, divide-number, divide-none}
 use Rattle.job.specs.declared.read.Taken.{Taken}
 use Rattle.job.specs.declared.read.Numbers.{Numbers}
 use Rattle.job.specs.declared.read.Numbers.the-variants.{Count, Refused}
-use Rattle.job.specs.Reading.{taken, takenAt, countFrom}
+use Rattle.job.specs.Reading.{taken, takenAt, countFrom, Loaded, loadLink, arrays, endsApart}
 
 -- What the reader of numbers says, in terms of what stands there.
 located-value : (at : ℕ) (d : Decoded) (v next : ℕ) → located at d ≡ Read.Value v next → (n : ℕ) × (d ≡ number v n) × (next ≡ at + n)
@@ -109,3 +113,30 @@ unfolding countFrom
 count-end s at n whole c l =
     let none-left : n + zero ≡ n = omega arith in
     sym (ap (λ (t : List ℕ). countFrom n (divide (c .fuel) t)) (drop-of-length-le s l) ∙ ap (countFrom n) (divide-end (c .fuel)) ∙ ap Count none-left) ∙ c .rest
+
+-- One turn of the loop that reads links.
+pub load-turn :
+    (s : List ℕ) (n e : ℕ) (l whole : Loaded) →
+    scan (loadLink s) (n - e) e l ≡ whole →
+    e < n →
+    (a b c m : Taken) →
+    a ≡ takenAt s (l .at) →
+    b ≡ takenAt s (a .next) →
+    c ≡ takenAt s (b .next) →
+    m ≡ takenAt s (c .next) →
+    scan (loadLink s) (n - (e + 1)) (e + 1) (arrays (m .next) (set (l .end₁) e (a .value)) (set (l .end₂) e (b .value)) (set (l .cost) e (c .value)) (set (l .mark) e (m .value))) ≡ whole
+unfolding loadLink
+load-turn s n e l whole q k a b c m p₁ p₂ p₃ p₄ = rw (p₄, p₃, p₂, p₁) (sym (scan-turn (loadLink s) n e l k) ∙ q)
+
+-- Question 4 of one link, by the tests of the code.
+pub apart-first : (n a b : ℕ) → n ≤ a → endsApart n a b ≡ false
+apart-first n a b l = rw (le-ltb a n l)
+
+pub apart-second : (n a b : ℕ) → a < n → n ≤ b → endsApart n a b ≡ false
+apart-second n a b k l = rw (lt-ltb a n k, le-ltb b n l)
+
+pub apart-same : (n a b : ℕ) → a < n → b < n → a ≡ b → endsApart n a b ≡ false
+apart-same n a b k l e = rw (lt-ltb a n k, lt-ltb b n l, eq-eqb a b e)
+
+pub apart-holds : (n a b : ℕ) → a < n → b < n → (a ≡ b → ⊥) → endsApart n a b ≡ true
+apart-holds n a b k l e = rw (lt-ltb a n k, lt-ltb b n l, ne-eqb a b e)

@@ -1,13 +1,13 @@
--- Laws of tests: a truth value is one of two, a conjunction holds if both parts do, and a test of all numbers below a
--- bound holds if it holds of each. Assumes nothing.
+-- Laws of tests: a truth value is one of two, what "and", "or" and "exclusive or" mean, what a choice comes to, and a test of
+-- all numbers below a bound holds if it holds of each. Assumes nothing.
 use Prim.Native.Nat.{ℕ, zero, suc, _+_, _<_}
 use native.Mathlib.Decide.{decLt}
 use native.Mathlib.Numerals.{add-one}
 use native.Mathlib.Omega.{arith}
-use mathlib.Core.Path.{_≡_, refl, sym, subst, _∙_}
-use mathlib.Core.Logic.{_⊎_, inl, inr}
-use mathlib.Core.Bool.{Bool, true, false, _&&_}
-use Rattle.loops.specs.Loop.{allBelow}
+use mathlib.Core.Path.{_≡_, refl, subst}
+use mathlib.Core.Logic.{_↔_, _≢_, _⊎_, inl, inr}
+use mathlib.Core.Bool.{Bool, true, false, cond, not, xor, _&&_, _||_}
+use Rattle.loops.specs.Loop.{choose, allBelow}
 
 pub truth : (b : Bool) → (b ≡ true) ⊎ (b ≡ false)
 truth true = inl refl
@@ -26,6 +26,39 @@ and-second false b h = clash h refl
 
 pub and-both : (a b : Bool) → a ≡ true → b ≡ true → (a && b) ≡ true
 and-both a b p q = rw (p, q)
+
+pub and-miss : (a b : Bool) → (a && b) ≡ false → a ≡ true → b ≡ false
+and-miss true b h p = h
+and-miss false b h p = clash p refl
+
+pub or-either : (a b : Bool) → (a || b) ≡ true → (a ≡ true) ⊎ (b ≡ true)
+or-either true b h = inl refl
+or-either false b h = inr h
+
+pub or-neither : (a b : Bool) → (a || b) ≡ false → (a ≡ false) × (b ≡ false)
+or-neither true b h = clash refl h
+or-neither false b h = (refl, h)
+
+-- "Not a, or b": if a, then b.
+pub or-means : (a b : Bool) → ((not a || b) ≡ true) ↔ (a ≡ true → b ≡ true)
+or-means true b = (λ h _. h, λ h. h refl)
+or-means false b = (λ h p. clash p refl, λ h. refl)
+
+pub xor-means : (a b : Bool) → (xor a b ≡ true) ↔ (a ≢ b)
+unfolding xor
+xor-means true true = (λ h p. clash h refl, λ d. absurd (d refl))
+xor-means true false = (λ h p. clash refl p, λ d. refl)
+xor-means false true = (λ h p. clash p refl, λ d. refl)
+xor-means false false = (λ h p. clash h refl, λ d. absurd (d refl))
+
+-- Of a choice, what holds of both sides.
+pub cond-both : {A : Type 0} (P : A → Type 0) (b : Bool) (x y : A) → (b ≡ true → P x) → (b ≡ false → P y) → P (cond b x y)
+cond-both P true x y f g = f refl
+cond-both P false x y f g = g refl
+
+pub choose-both : {A : Type 0} (P : A → Type 0) (b : Bool) (x y : Unit {0} → A) → (b ≡ true → P (x tt)) → (b ≡ false → P (y tt)) → P (choose b x y)
+choose-both P true x y f g = f refl
+choose-both P false x y f g = g refl
 
 pub all-at : (n : ℕ) (p : ℕ → Bool) → allBelow n p ≡ true → (i : ℕ) → i < n → p i ≡ true
 unfolding allBelow
@@ -53,3 +86,9 @@ all-miss n p i l q = missed (truth (allBelow n p))
 pub all-more : (i : ℕ) (p : ℕ → Bool) → allBelow i p ≡ true → p i ≡ true → allBelow (i + 1) p ≡ true
 unfolding allBelow
 all-more i p h q = rw add-one (and-both (allBelow i p) (p i) h q)
+
+pub all-same :
+    (n : ℕ) (p q : ℕ → Bool) → ((i : ℕ) → i < n → p i ≡ q i) → allBelow n p ≡ allBelow n q
+unfolding allBelow
+all-same zero p q h = refl
+all-same (suc n) p q h = rw (all-same n p q (λ i l. h i (omega arith)), h n (omega arith))

@@ -1,0 +1,67 @@
+// A word as a set of numbers below 64: number i is a member if digit i is set (specs/Bit.antt).
+ghost use mathlib.Core.Path.{_≡_};
+ghost use mathlib.Core.Bool.{not, xor, _&&_, _||_};
+ghost use Prim.Native.Nat.{ℕ, _<_};
+ghost use lib.Dec.{eqb};
+ghost use Rattle.loops.specs.Loop.{first};
+ghost use Rattle.bits.specs.Bit.{bit};
+
+// Is `i` a member?
+pub fn has(w: u64, i: u32) -> bool
+    requires { ⌜ i < 64 ⌝ }
+    ensures { λ r. ⌜ r ≡ bit w i ⌝ }
+{
+    (w >> i) & 1 == 1
+}
+
+// `w` with `i` as a member.
+pub fn with(w: u64, i: u32) -> u64
+    requires { ⌜ i < 64 ⌝ }
+    ensures { λ r. ⌜ ((j : ℕ) → bit r j ≡ (bit w j || eqb i j)) ⌝ }
+{
+    w | (1u64 << i)
+}
+
+// `w` with `i` put in if it is no member, and taken out if it is one.
+pub fn flip(w: u64, i: u32) -> u64
+    requires { ⌜ i < 64 ⌝ }
+    ensures { λ r. ⌜ ((j : ℕ) → bit r j ≡ xor (bit w j) (eqb i j)) ⌝ }
+{
+    w ^ (1u64 << i)
+}
+
+// The members of both.
+pub fn both(v: u64, w: u64) -> u64
+    ensures { λ r. ⌜ ((j : ℕ) → bit r j ≡ (bit v j && bit w j)) ⌝ }
+{
+    v & w
+}
+
+// The members of one of the two only.
+pub fn differ(v: u64, w: u64) -> u64
+    ensures { λ r. ⌜ ((j : ℕ) → bit r j ≡ xor (bit v j) (bit w j)) ⌝ }
+{
+    v ^ w
+}
+
+// The members of `v` that are not in `w`.
+pub fn less(v: u64, w: u64) -> u64
+    ensures { λ r. ⌜ ((j : ℕ) → bit r j ≡ (bit v j && not (bit w j))) ⌝ }
+{
+    v & !w
+}
+
+// The lowest member; 64 if there is none.
+pub fn lowest(w: u64) -> u32
+    ensures { λ r. ⌜ r ≡ first 64 (bit w) ⌝ }
+{
+    u64::trailing_zeros(w)
+}
+
+// `w` without its lowest member.
+pub fn without_lowest(w: u64) -> u64
+    requires { ⌜ 0 < w ⌝ }
+    ensures { λ r. ⌜ ((j : ℕ) → bit r j ≡ (bit w j && not (eqb j (first 64 (bit w))))) ⌝ }
+{
+    w & (w - 1)
+}

@@ -1,0 +1,173 @@
+-- `job::read::read_job` meets its contract: the questions in turn, each by the function that puts it. Assumes nothing.
+use Prim.Native.Nat.{ℕ, suc, _-_}
+use native.Mathlib.Omega.{arith}
+use mathlib.Core.Path.{_≡_, refl, sym, ap, ap₂, _∙_}
+use mathlib.Core.Bool.{true, false}
+use borrow.Author.Needs.{needs}
+use borrow.Author.Tests.{not-true, not-false}
+use lib.ListN.{length, take, drop, length-drop}
+use lib.Seq.{take-all}
+use Rattle.frame.specs.Questions.{jobOf, question4, question5}
+use Rattle.job.specs.declared.read.Header.{Header}
+use Rattle.job.specs.Reading.{Loaded, arrays, filled, endsHold, marksHold}
+use Rattle.job.specs.FormLaws.{Passed, counts-passed, counts-refused, links-read, ends-read, marks-read, ends-refused, marks-refused, form-passed}
+use Rattle.job.proofs.read.read_job.Statement.{statement}
+use Rattle.job.proofs.read.read_job.Tie as tie
+use Rattle.job.proofs.read.read_job.Reads as reads
+use Rattle.job.proofs.read.read_job.Lts as lts
+use Rattle.job.proofs.read.ends_hold.Reads as ends-hold-reads
+use Rattle.job.proofs.read.marks_hold.Reads as marks-hold-reads
+use Rattle.job.proofs.read.read_counts.Reads as read-counts-reads
+use Rattle.job.proofs.read.read_links.Reads as read-links-reads
+use Rattle.job.proofs.read.refused.Reads as refused-reads
+
+-- questions 1 to 3 have passed
+passing : (k : tie.Else1) → Passed (k .before .before .before .args .frame .now) (k .before .read-counts .result)
+passing k =
+    counts-passed _ (λ i. k .before .before .shared-slice-known .given i .fits) (k .before .read-counts .result) (k .before .read-counts .ensures) (k .if1 .left)
+
+-- the links are in their arrays
+loaded :
+    (k : tie.After-read-links) →
+    let a = k .before .before .before .before .before .before .before .before .before .before .args in
+    let l = k .read-links .last .1 .1 in
+    arrays 0 (l .0) (l .1 .0) (l .1 .1 .0) (l .1 .1 .1 .0) ≡ filled (jobOf (a .frame .now) .links) 0 0 (arrays 0 (a .end1 .now) (a .end2 .now) (a .cost .now) (a .mark .now))
+loaded k =
+    let e = k .before .before .before .before .before .before .before in
+    let a = e .before .before .before .args in
+    let from = e .before .read-counts .result .behind in
+    ap (λ (l : Loaded). arrays 0 (l .end₁) (l .end₂) (l .cost) (l .mark))
+    (k .read-links .ensures ∙ links-read (a .frame .now) (e .before .read-counts .result) (passing e) (take (length (a .frame .now) - from) (drop from (a .frame .now)))
+    (take-all (length (a .frame .now) - from) (drop from (a .frame .now)) (omega (arith, length-drop from (a .frame .now))))
+    (arrays 0 (a .end1 .now) (a .end2 .now) (a .cost .now) (a .mark .now)) refl)
+
+-- question 4, as it was put over the arrays
+ends-answer :
+    (k : tie.After-ends-hold) →
+    let r = k .before .before .before in
+    k .ends-hold .result ≡ question4 (jobOf (r .before .before .before .before .before .before .before .before .before .before .args .frame .now))
+ends-answer k =
+    let r = k .before .before .before in
+    let e = r .before .before .before .before .before .before .before in
+    let a = e .before .before .before .args in
+    let c = e .before .read-counts .result in
+    k .ends-hold .ensures ∙
+    ap₂ (endsHold (c .nodes) (c .edges)) (ap (λ (l : Loaded). l .end₁) (loaded r)) (ap (λ (l : Loaded). l .end₂) (loaded r)) ∙
+    ends-read (a .frame .now) c (passing e) (a .end1 .now) (a .end2 .now) (e .before .before .before .pre .end₁) (e .before .before .before .pre .end₂)
+
+-- question 5
+marks-answer :
+    (k : tie.After-marks-hold) →
+    let r = k .before .before .before .before .before .before in
+    k .marks-hold .result ≡ question5 (jobOf (r .before .before .before .before .before .before .before .before .before .before .args .frame .now))
+marks-answer k =
+    let r = k .before .before .before .before .before .before in
+    let e = r .before .before .before .before .before .before .before in
+    let a = e .before .before .before .args in
+    let c = e .before .read-counts .result in
+    k .marks-hold .ensures ∙
+    ap (marksHold (c .edges)) (ap (λ (l : Loaded). l .mark) (loaded r)) ∙
+    marks-read (a .frame .now) c (passing e) (a .mark .now) (e .before .before .before .pre .mark)
+
+refused-nonzero : (n : ℕ) (h : Header) → h ≡ record { refusal = suc n; nodes = 0; edges = 0 } → h .refusal ≡ 0 → ⊥
+refused-nonzero n h e z = omega (arith, ap (λ (r : Header). r .refusal) e, z)
+
+-- src/read.rt:207:9
+read-counts-requires : tie.Need-read-counts-requires
+read-counts-requires c κs = search needs
+
+-- src/read.rt:210:9
+refused-requires : tie.Need-refused-requires
+refused-requires c κs = search needs
+
+-- src/read.rt:210:9
+returns : tie.Need-returns
+returns c =
+    let k = c .before .before in
+    let h = counts-refused (k .before .before .args .frame .now) (k .read-counts .result) (k .read-counts .ensures) (c .before .if1 .taken) in
+    (c .refused .ensures ∙ h, λ z. absurd (c .before .if1 .taken (sym (ap (λ (r : Header). r .refusal) (c .refused .ensures)) ∙ z)))
+
+-- src/read.rt:213:16
+sub-part : tie.Need-sub-part
+sub-part c = passing c .within
+
+-- src/read.rt:213:16
+part-part-start : tie.Need-part-part-start
+part-part-start c = passing c .within
+
+-- src/read.rt:213:16
+part-part-end : tie.Need-part-part-end
+part-part-end c = search needs
+
+-- src/read.rt:215:17
+cast-edges : tie.Need-cast-edges
+cast-edges c = search needs
+
+-- src/read.rt:216:5
+read-links-requires : tie.Need-read-links-requires
+read-links-requires c κs = passing (c .before .before .before .before .before .before) .limit
+
+-- src/read.rt:217:9
+ends-hold-requires : tie.Need-ends-hold-requires
+ends-hold-requires c κs = passing (c .before .before .before .before .before .before .before .before .before) .limit
+
+-- src/read.rt:218:9
+refused-requires-2 : tie.Need-refused-requires-2
+refused-requires-2 c κs = search needs
+
+-- src/read.rt:218:9
+returns-2 : tie.Need-returns-2
+returns-2 c =
+    let k = c .before .before in
+    let e = k .before .before .before .before .before .before .before .before .before .before in
+    let no : k .ends-hold .result ≡ false = not-true _ (c .before .if2 .taken) in
+    (c .refused2 .ensures ∙ ends-refused (e .before .before .before .args .frame .now) (e .before .read-counts .result) (passing e) (sym (ends-answer k) ∙ no), λ z. absurd (refused-nonzero 3 (c .refused2 .result) (c .refused2 .ensures) z))
+
+-- src/read.rt:220:9
+marks-hold-requires : tie.Need-marks-hold-requires
+marks-hold-requires c κs = passing (c .before .before .before .before .before .before .before .before .before .before .before .before) .limit
+
+-- src/read.rt:221:9
+refused-requires-3 : tie.Need-refused-requires-3
+refused-requires-3 c κs = search needs
+
+-- src/read.rt:221:9
+returns-3 : tie.Need-returns-3
+returns-3 c =
+    let m = c .before .before in
+    let k = m .before .before .before in
+    let e = k .before .before .before .before .before .before .before .before .before .before in
+    let yes : k .ends-hold .result ≡ true = not-false _ (m .before .before .if2 .left) in
+    let no : m .marks-hold .result ≡ false = not-true _ (c .before .if3 .taken) in
+    (c .refused3 .ensures ∙ marks-refused (e .before .before .before .args .frame .now) (e .before .read-counts .result) (passing e) (sym (ends-answer k) ∙ yes) (sym (marks-answer m) ∙ no), λ z. absurd (refused-nonzero 4 (c .refused3 .result) (c .refused3 .ensures) z))
+
+-- src/read.rt:193:1
+returns-4 : tie.Need-returns-4
+returns-4 c =
+    let m = c .before in
+    let k = m .before .before .before in
+    let r = k .before .before .before in
+    let e = r .before .before .before .before .before .before .before in
+    let yes₄ : k .ends-hold .result ≡ true = not-false _ (m .before .before .if2 .left) in
+    let yes₅ : m .marks-hold .result ≡ true = not-false _ (c .if3 .left) in
+    (form-passed (e .before .before .before .args .frame .now) (e .before .read-counts .result) (passing e) (sym (ends-answer k) ∙ yes₄) (sym (marks-answer m) ∙ yes₅), λ z. loaded r)
+
+pub read-job-spec : {M : Type 1} → statement M
+read-job-spec =
+    tie.close
+    (tie.spec
+    read-counts-requires
+    refused-requires
+    returns
+    sub-part
+    part-part-start
+    part-part-end
+    cast-edges
+    read-links-requires
+    ends-hold-requires
+    refused-requires-2
+    returns-2
+    marks-hold-requires
+    refused-requires-3
+    returns-3
+    returns-4)

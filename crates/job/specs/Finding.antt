@@ -1,0 +1,97 @@
+-- What the link finder computes, and that it finds a link's numbers. Assumes nothing.
+use Prim.Native.Nat.{ℕ, zero, suc, _+_, _-_, _*_, _<_, _≤_}
+use native.Mathlib.Omega.{arith}
+use mathlib.Core.Path.{_≡_, refl, sym, ap, ap₂, subst, _∙_}
+use mathlib.Core.Bool.{true, false}
+use mathlib.Core.List.{List, [], _∷_, flatMap}
+use mathlib.Core.Option.{Option, some, none}
+use lib.ListN.{length, getD, take, drop, length-append, length-drop}
+use borrow.Author.Tests.{eq-eqb, ne-eqb, lt-ltb, le-ltb}
+use Rattle.loops.specs.Loop.{scan}
+use Rattle.loops.specs.ScanLaws.{scan-turn}
+use Rattle.leb128.specs.Number.{Bytes, encode}
+use Rattle.frame.specs.Job.{numberBytes, bytesOf}
+use Rattle.frame.specs.Questions.{numbers, edgeCount, jobOf, formRefusal}
+use Rattle.frame.specs.Services.{linkOffset, linkLength, linkPart}
+use Rattle.frame.specs.Meaning.{Divides}
+use Rattle.frame.specs.Division.{division}
+use Rattle.frame.specs.RoundTrip.{formed, job-of, length-links}
+use Rattle.job.specs.declared.read.Header.{Header}
+use Rattle.job.specs.Reading.{takenAt, header, headerOf}
+use Rattle.job.specs.LoadLaws.{Next, next-number}
+use Rattle.job.specs.FormLaws.{parts-join, drop-divides}
+
+-- The position behind so many numbers from a position on.
+abbrev pub step : List ℕ → ℕ → ℕ → ℕ
+step s i at = takenAt s at .next
+
+abbrev pub skipped : List ℕ → ℕ → ℕ → ℕ
+skipped s n at = scan (step s) n 0 at
+
+skip-from : (s : List ℕ) (n i at : ℕ) (ns : List ℕ) → at ≤ length s → Divides (drop at s) ns → n ≤ length ns → scan (step s) n i at ≡ at + length (bytesOf (take n ns))
+unfolding scan flatMap
+skip-from s zero i at ns w d l = omega arith
+skip-from s (suc n) i at [] w d l = absurd (omega arith)
+skip-from s (suc n) i at (v ∷ ns) w d l =
+    let k = next-number s ns v at w d in
+    let here : takenAt s at .next ≡ k .next = ap (λ t. t .next) (k .here) in
+    rw here (skip-from s n (suc i) (k .next) ns (k .within) (k .rest) (omega arith) ∙ simp length-append (omega (arith, k .size)))
+
+-- Where the numbers of a frame end.
+pub skip-numbers : (s ns : List ℕ) (i n : ℕ) → Divides s ns → i + n ≤ length ns → skipped s n (length (bytesOf (take i ns))) ≡ length (bytesOf (take i ns)) + length (bytesOf (take n (drop i ns)))
+skip-numbers s ns i n d l =
+    skip-from s n 0 (length (bytesOf (take i ns))) (drop i ns) (omega (arith, length-append (bytesOf (take i ns)) (bytesOf (drop i ns)), ap length (parts-join s ns i d))) (drop-divides s ns i d) (omega (arith, length-drop i ns))
+
+-- The finder, by the tests of the code.
+pub find-refused : (h : Header) (s : List ℕ) (e : ℕ) → (h .refusal ≡ 0 → ⊥) → linkPart (h .refusal) s e ≡ []
+find-refused h s e n = rw (ne-eqb (h .refusal) 0 n)
+
+-- An accepted header's count is the frame's.
+pub record Found (s : List ℕ) (h : Header) : Type 0 where
+  pub ns : List ℕ
+  pub divides : Divides s ns
+  pub divided : numbers s ≡ some ns
+  pub edges : h .edges ≡ edgeCount ns
+  pub size : length ns ≡ 4 * h .edges + 2
+
+header-form : (r : ℕ) (h : Header) (s : List ℕ) → h .refusal ≡ 0 → h ≡ header r (jobOf s) → (r ≡ 0) × (h .edges ≡ length (jobOf s .links))
+unfolding header
+header-form zero h s z e = (refl, ap (λ (h : Header). h .edges) e)
+header-form (suc r) h s z e = absurd (omega (arith, z, ap (λ (h : Header). h .refusal) e))
+
+pub found : (s : List ℕ) → Bytes s → (h : Header) → h .refusal ≡ 0 → h ≡ headerOf s → Found s h
+found s b h z e =
+    let (r, edges) = header-form (formRefusal s) h s z e in
+    let (ns, f) = formed s b r in
+    let four : length (drop 2 ns) ≡ 4 * edgeCount ns = omega (arith, length-drop 2 ns, f .complete, f .counted .two) in
+    let count : h .edges ≡ edgeCount ns = edges ∙ ap (λ j. length (j .links)) (job-of s ns b (f .divides)) ∙ length-links (edgeCount ns) (drop 2 ns) four in
+    record { ns = ns; divides = f .divides; divided = division s ns b .1 (f .divides); edges = count; size = omega (arith, f .complete, count) }
+
+module _ (s : List ℕ) (h : Header) (z : h .refusal ≡ 0) (f : Found s h) where
+  pub find-none : (e : ℕ) → h .edges ≤ e → linkPart (h .refusal) s e ≡ []
+  find-none e l = rw (f .divided, eq-eqb (h .refusal) 0 z, le-ltb e (edgeCount (f .ns)) (omega (arith, f .edges)))
+
+  -- The two ends of the part.
+  module _ (e first end : ℕ) (l : e < h .edges) (p : first ≡ skipped s (4 * e + 2) 0) (q : end ≡ skipped s 4 first) where
+    at-first : first ≡ linkOffset (f .ns) e
+    unfolding flatMap
+    at-first =
+        let whole : 0 + linkOffset (f .ns) e ≡ linkOffset (f .ns) e = omega arith in
+        p ∙ skip-numbers s (f .ns) 0 (4 * e + 2) (f .divides) (omega (arith, f .size)) ∙ whole
+
+    at-end : end ≡ first + linkLength (f .ns) e
+    at-end = q ∙ ap (skipped s 4) at-first ∙ skip-numbers s (f .ns) (4 * e + 2) 4 (f .divides) (omega (arith, f .size)) ∙ ap (λ (o : ℕ). o + linkLength (f .ns) e) (sym at-first)
+
+    pub ends-order : first ≤ end
+    ends-order = omega (arith, at-end)
+
+    pub ends-within : end ≤ length s
+    ends-within =
+        let i : ℕ = 4 * e + 2 in
+        omega (arith, at-first, at-end, length-append (bytesOf (take i (f .ns))) (bytesOf (drop i (f .ns))), ap length (parts-join s (f .ns) i (f .divides)), length-append (bytesOf (take 4 (drop i (f .ns)))) (bytesOf (drop 4 (drop i (f .ns)))), ap length (parts-join (drop (length (bytesOf (take i (f .ns)))) s) (drop i (f .ns)) 4 (drop-divides s (f .ns) i (f .divides))), length-drop (length (bytesOf (take i (f .ns)))) s)
+
+    pub find-part : take (end - first) (drop first s) ≡ linkPart (h .refusal) s e
+    find-part =
+        let size : end - first ≡ linkLength (f .ns) e = omega (arith, at-end) in
+        rw (f .divided, eq-eqb (h .refusal) 0 z, lt-ltb e (edgeCount (f .ns)) (omega (arith, f .edges)))
+        (ap₂ (λ (n o : ℕ). take n (drop o s)) size at-first)

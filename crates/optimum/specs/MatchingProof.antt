@@ -1,0 +1,96 @@
+-- The matching of the model is valid, and costs exist that are slack with it: it is a best one.
+-- Assumes nothing.
+use Prim.Native.Nat.{ℕ, zero, suc, _+_, _≤_, _<_}
+use native.Mathlib.Omega.{arith}
+use mathlib.Core.Path.{_≡_, refl, ap}
+use mathlib.Core.Logic.{_⊎_, inl, inr}
+use mathlib.Core.Bool.{true, false}
+use lib.IntN.{pos}
+use Rattle.loops.specs.Loop.{scan}
+use Rattle.loops.specs.TestLaws.{clash}
+use Rattle.optimum.specs.Search.{Problem, Mates, Progress, augment, matching}
+use Rattle.optimum.specs.Slackness.{Ranked, Valid, RankCosts, Slack, Unmatched}
+use Rattle.graph.specs.Integers.{pos-le}
+use Rattle.optimum.specs.Matched.{Matched, matched-view}
+use Rattle.optimum.specs.Invariant.{Pairs, Done}
+use Rattle.optimum.specs.Augment.{Invariant, augment-keeps}
+
+abbrev first-progress : Progress
+first-progress = record { mates = λ _. 0; treeDead = λ _. false; spareDead = λ _. false }
+
+first-invariant : (p : Problem) → Invariant p 0 first-progress (p .spareCost)
+first-invariant p =
+    record {
+      pairs =
+          record {
+            below = λ s t l e. absurd (omega arith);
+            covers = λ s t l e. absurd (omega arith);
+            falls = λ s t l e. absurd (omega arith);
+            once = λ s s′ t l l′ e e′. absurd (omega arith);
+            feasible = λ s s′ t l l′ e c. absurd (omega arith);
+            above = λ s l. omega arith;
+            free = λ s l e. refl;
+            under = λ s t l e. absurd (omega arith);
+          };
+      done = λ t l. absurd (omega arith);
+      high-spare = λ s t l q a b. clash q refl;
+      high-tree = λ x s t l q c a b. clash q refl;
+    }
+
+all-augmented : (p : Problem) → Ranked p → (turns t : ℕ) (pr : Progress) (d : ℕ → ℕ) → t + turns ≡ p .trees → Invariant p t pr d → (d′ : ℕ → ℕ) × Pairs p (p .trees) (scan (augment p) turns t pr .mates) d′ × ((x : ℕ) → x < p .trees → Done p (scan (augment p) turns t pr .mates) d′ x)
+unfolding scan
+all-augmented p r zero t pr d e i = let q : t ≡ p .trees = omega arith in (d, rw q at (i .pairs), rw q at (i .done))
+all-augmented p r (suc turns) t pr d e i =
+    let next : (d′ : ℕ → ℕ) × Invariant p (suc t) (augment p t pr) d′ = augment-keeps p r t (omega arith) pr d i in
+    all-augmented p r turns (suc t) (augment p t pr) (next .0) (omega arith) (next .1)
+
+-- A matched tree rank costs as much as its mate; an unmatched one keeps its cost.
+abbrev tree-cost : (p : Problem) (mates : Mates) (d : ℕ → ℕ) (t : ℕ) → Matched p mates t ⊎ Unmatched p mates t → ℕ
+tree-cost p mates d t (inl m) = d (m .0)
+tree-cost p mates d t (inr u) = p .treeCost t
+
+abbrev rank-costs : Problem → Mates → (ℕ → ℕ) → RankCosts
+rank-costs p mates d = record { tree = λ t. pos (tree-cost p mates d t (matched-view p mates t)); spare = λ s. pos (d s) }
+
+module _ (p : Problem) (mates : Mates) (d : ℕ → ℕ) (g : Pairs p (p .trees) mates d) (done : (t : ℕ) → t < p .trees → Done p mates d t) where
+  pairs-valid : Valid p mates
+  pairs-valid = record { below = g .below; covers = g .covers; falls = g .falls; once = g .once }
+
+  pairs-slack : Slack p mates (rank-costs p mates d)
+  pairs-slack =
+      record {
+        feasible = λ t s k l c. pos-le (feasible t s k l c (matched-view p mates t));
+        tight = λ s t l e. ap pos (tight s t l e (matched-view p mates t));
+        above = λ s l. pos-le (g .above s l);
+        below = λ t k. pos-le (below t k (matched-view p mates t));
+        spare-free = λ s l e. ap pos (g .free s l e);
+        tree-free = λ t k u. ap pos (free t k u (matched-view p mates t));
+      }
+    where
+      covered : (t s : ℕ) → s < p .spares → p .covers t s ≡ true → Unmatched p mates t → Done p mates d t → p .treeCost t ≤ d s
+      covered t s l c u (inl m) = absurd (u (m .0) (m .1) (m .2))
+      covered t s l c u (inr f) = f s l c
+
+      feasible : (t s : ℕ) → t < p .trees → s < p .spares → p .covers t s ≡ true → (w : Matched p mates t ⊎ Unmatched p mates t) → tree-cost p mates d t w ≤ d s
+      feasible t s k l c (inl m) = g .feasible (m .0) s t (m .1) l (m .2) c
+      feasible t s k l c (inr u) = covered t s l c u (done t k)
+
+      tight : (s t : ℕ) → s < p .spares → mates s ≡ suc t → (w : Matched p mates t ⊎ Unmatched p mates t) → tree-cost p mates d t w ≡ d s
+      tight s t l e (inl m) = ap d (g .once (m .0) s t (m .1) l (m .2) e)
+      tight s t l e (inr u) = absurd (u s l e)
+
+      below : (t : ℕ) → t < p .trees → (w : Matched p mates t ⊎ Unmatched p mates t) → tree-cost p mates d t w ≤ p .treeCost t
+      below t k (inl m) = g .under (m .0) t (m .1) (m .2)
+      below t k (inr u) = omega arith
+
+      free : (t : ℕ) → t < p .trees → Unmatched p mates t → (w : Matched p mates t ⊎ Unmatched p mates t) → tree-cost p mates d t w ≡ p .treeCost t
+      free t k u (inl m) = absurd (u (m .0) (m .1) (m .2))
+      free t k u (inr _) = refl
+
+matching-ends : (p : Problem) → Ranked p → (d : ℕ → ℕ) × Pairs p (p .trees) (matching p) d × ((t : ℕ) → t < p .trees → Done p (matching p) d t)
+matching-ends p r = all-augmented p r _ 0 _ (p .spareCost) (omega arith) (first-invariant p)
+
+pub matching-slack : (p : Problem) → Ranked p → Valid p (matching p) × ((d : RankCosts) × Slack p (matching p) d)
+matching-slack p r =
+    let (d, pairs, done) = matching-ends p r in
+    (pairs-valid p (matching p) d pairs done, (rank-costs p (matching p) d, pairs-slack p (matching p) d pairs done))

@@ -1,0 +1,173 @@
+-- What the answer of the model is: its costs are the labels of the ranks, its steps their deviation and the weight of its
+-- pairs; they make the tree minimum, no costs that do take fewer steps, and those that take as few are nowhere lower.
+-- Assumes nothing.
+use Prim.Native.Nat.{ℕ, _≤_, _<_}
+use native.Mathlib.Omega.{arith}
+use mathlib.Core.Path.{_≡_, refl, ap, sym, _∙_}
+use mathlib.Core.Logic.{_⊎_, inl, inr}
+use mathlib.Core.Bool.{true, not}
+use lib.IntN.{pos, natAbs, _-ℤ_}
+use lib.Signed.{_≤ℤ_}
+use lib.ListN.{length, getD}
+use Rattle.loops.specs.TestLaws.{truth, and-both}
+use Rattle.loops.specs.SumLaws.{sum-same}
+use Rattle.loops.specs.GatherLaws.{length-tabulate, getD-tabulate}
+use Rattle.graph.specs.Graph.{Graph, Sound, EdgeSet, SpanningTree, Minimum}
+use Rattle.graph.specs.Rank.{spareOf, treeRanks, spareRanks}
+use Rattle.graph.specs.RankLaws.{tree-lists, spare-lists}
+use Rattle.optimum.specs.Optimum.{Costs, deviation, IsPair, Matching, weight, Rising, Falls, chosen}
+use Rattle.optimum.specs.Search.{Mates, matching}
+use Rattle.optimum.specs.Lowest.{Labels, labels}
+use Rattle.optimum.specs.Slackness.{Valid, Slack, rankWeight}
+use Rattle.optimum.specs.Solve.{problem, newCosts, solve}
+use Rattle.optimum.specs.Distance.{distance-is}
+use Rattle.optimum.specs.Duality.{weak, slack-equal, equal-slack}
+use Rattle.optimum.specs.MatchingProof.{matching-slack}
+use Rattle.optimum.specs.LowestProof.{labelCosts, labels-slack, labels-lowest}
+use Rattle.optimum.specs.Solution.{
+  byRank,
+  ranked,
+  tree-new,
+  spare-new,
+  edge-rank,
+  rank-deviation,
+  label-deviation,
+  Mated,
+  pairsOf,
+  pairs-from,
+  pairs-rising,
+  pairs-falls,
+  pairs-apart,
+  pairs-weight,
+}
+use Rattle.optimum.specs.RankCriterion.{rank-covers, rank-criterion}
+
+-- The matching and the labels of the answer.
+abbrev pub matesOf : Graph → EdgeSet → (ℕ → ℕ) → Mates
+matesOf g tr c = matching (problem g tr c)
+
+abbrev pub labelsOf : Graph → EdgeSet → (ℕ → ℕ) → Labels
+labelsOf g tr c = labels (problem g tr c) (matesOf g tr c)
+
+module _ (g : Graph) (tr : EdgeSet) (c : ℕ → ℕ) where
+  abbrev new : ℕ → ℕ
+  new = newCosts (treeRanks g tr c) (spareRanks g tr c) (labelsOf g tr c)
+
+  pub solve-count : length (solve g tr c .costs) ≡ g .edges
+  unfolding solve
+  solve-count = length-tabulate _ (g .edges)
+
+  -- The costs handed back are the labels, put at their edges.
+  new-cost : (e : ℕ) → e < g .edges → getD (solve g tr c .costs) e 0 ≡ new e
+  unfolding solve
+  new-cost e h = getD-tabulate _ (g .edges) e 0 h
+
+  -- An edge costs as much as its rank's label says.
+  pub tree-cost :
+      (t : ℕ) → t < length (treeRanks g tr c)
+      → getD (solve g tr c .costs) (getD (treeRanks g tr c) t 0) 0 ≡ labelsOf g tr c .treeLabel t
+  tree-cost t h =
+      new-cost (getD (treeRanks g tr c) t 0) (tree-lists g tr c .below t h) ∙ tree-new g tr c (labelsOf g tr c) t h
+
+  pub spare-cost :
+      (s : ℕ) → s < length (spareRanks g tr c)
+      → getD (solve g tr c .costs) (getD (spareRanks g tr c) s 0) 0 ≡ labelsOf g tr c .spareLabel s
+  spare-cost s h =
+      new-cost (getD (spareRanks g tr c) s 0) (spare-lists g tr c .below s h) ∙ spare-new g tr c (labelsOf g tr c) s h
+
+  -- The step count is the sum of their changes.
+  new-steps : solve g tr c .steps ≡ deviation g c (λ e. pos (new e))
+  unfolding solve
+  new-steps = sum-same (g .edges) _ (λ e. natAbs (pos (new e) -ℤ pos (c e))) (λ e h. omega (arith, distance-is (pos (new e)) (c e)))
+
+  pub solve-steps : solve g tr c .steps ≡ deviation g c (chosen (solve g tr c))
+  solve-steps =
+      new-steps
+      ∙ sum-same (g .edges) (λ e. natAbs (pos (new e) -ℤ pos (c e)))
+      (λ e. natAbs (chosen (solve g tr c) e -ℤ pos (c e))) (λ e h. rw (new-cost e h))
+
+  -- The pairs listed are those of the matching.
+  pub solve-pairs : solve g tr c .pairs ≡ pairsOf g tr c (matesOf g tr c)
+  unfolding solve
+  solve-pairs = refl
+
+  pub solve-rising : Rising (solve g tr c .pairs)
+  solve-rising = rw solve-pairs (pairs-rising g tr c (matesOf g tr c))
+
+  -- The matching and the labels are slack: each proves the other best.
+  pub solve-valid : Valid (problem g tr c) (matesOf g tr c)
+  solve-valid = matching-slack (problem g tr c) (ranked g tr c) .0
+
+  pub solve-slack : Slack (problem g tr c) (matesOf g tr c) (labelCosts (labelsOf g tr c))
+  solve-slack =
+      let some = matching-slack (problem g tr c) (ranked g tr c) .1 in
+      labels-slack (problem g tr c) (ranked g tr c) (matesOf g tr c) solve-valid (some .0) (some .1)
+
+  pub solve-falls : Falls c (solve g tr c .pairs)
+  solve-falls = rw solve-pairs (pairs-falls g tr c (matesOf g tr c) solve-valid)
+
+  module _ (sound : Sound g) (tree : SpanningTree g tr) where
+    pub solve-minimum : Minimum g tr (chosen (solve g tr c))
+    solve-minimum =
+        rank-criterion sound tree c (chosen (solve g tr c)) .1
+        (λ t s h l q. rw (tree-cost t h, spare-cost s l) (solve-slack .feasible t s h l q))
+
+    mated-pair :
+        (e x : ℕ) → Mated (treeRanks g tr c) (spareRanks g tr c) (matesOf g tr c) e x
+        → IsPair g tr (record { tree = e; spare = x })
+    mated-pair e x m =
+        let below : m .treeRank < length (treeRanks g tr c) =
+        solve-valid .below (m .spareRank) (m .treeRank) (m .below) (m .mate) in
+        rw (sym (m .tree), sym (m .spare))
+        record {
+          tree-below = tree-lists g tr c .below (m .treeRank) below;
+          tree-in = tree-lists g tr c .inside (m .treeRank) below;
+          spare-below = spare-lists g tr c .below (m .spareRank) (m .below);
+          spare-in = spare-lists g tr c .inside (m .spareRank) (m .below);
+          covers =
+              rank-covers sound tree c (m .treeRank) (m .spareRank) below (m .below) .0
+              (solve-valid .covers (m .spareRank) (m .treeRank) (m .below) (m .mate));
+        }
+
+    pub solve-matching : Matching g tr (solve g tr c .pairs)
+    solve-matching =
+        rw solve-pairs
+        record {
+          pairs = λ q m. mated-pair (q .tree) (q .spare) (pairs-from g tr c (matesOf g tr c) q m);
+          apart = pairs-apart g tr c (matesOf g tr c) solve-valid;
+        }
+
+  -- All edges are usable.
+  module _ (live : (e : ℕ) → e < g .edges → g .live e ≡ true) where
+    -- Every edge is a tree edge or a non-tree edge.
+    pub whole : (e : ℕ) → e < g .edges → (tr e ≡ true) ⊎ (spareOf g tr e ≡ true)
+    whole e h = elim (truth (tr e)) [ inl q ↦ inl q | inr q ↦ inr (and-both (g .live e) (not (tr e)) (live e h) (ap not q)) ]
+
+    steps-weight : solve g tr c .steps ≡ rankWeight (problem g tr c) (matesOf g tr c)
+    steps-weight =
+        new-steps
+        ∙ label-deviation g tr c whole (labelsOf g tr c)
+        ∙ slack-equal (problem g tr c) (matesOf g tr c) (labelCosts (labelsOf g tr c)) solve-valid solve-slack
+
+    pub solve-weighs : weight c (solve g tr c .pairs) ≡ pos (solve g tr c .steps)
+    solve-weighs =
+        rw (solve-pairs, steps-weight) (pairs-weight g tr c (matesOf g tr c) solve-valid)
+
+    module _ (sound : Sound g) (tree : SpanningTree g tr) where
+      pub solve-fewest : (d : Costs) → Minimum g tr d → solve g tr c .steps ≤ deviation g c d
+      solve-fewest d m =
+          rw (steps-weight, rank-deviation g tr c whole d)
+          (weak (problem g tr c) (matesOf g tr c) (byRank g tr c d) solve-valid (rank-criterion sound tree c d .0 m))
+
+      pub solve-lowest :
+          (d : Costs) → Minimum g tr d → deviation g c d ≡ solve g tr c .steps → (e : ℕ) → e < g .edges
+          → chosen (solve g tr c) e ≤ℤ d e
+      solve-lowest d m q e h =
+          let slack : Slack (problem g tr c) (matesOf g tr c) (byRank g tr c d) =
+          equal-slack (problem g tr c) (matesOf g tr c) (byRank g tr c d) solve-valid (rank-criterion sound tree c d .0 m)
+          (sym (rank-deviation g tr c whole d) ∙ q ∙ steps-weight) in
+          let least = labels-lowest (problem g tr c) (ranked g tr c) (matesOf g tr c) solve-valid (byRank g tr c d) slack in
+          elim (edge-rank g tr c whole e h) [
+            | inl t ↦ rw (sym (t .2), tree-cost (t .0) (t .1)) (least .0 (t .0) (t .1))
+            | inr s ↦ rw (sym (s .2), spare-cost (s .0) (s .1)) (least .1 (s .0) (s .1))
+          ]
