@@ -15,21 +15,11 @@ use Rattle.graph.specs.Graph.{Sound}
 use Rattle.frame.specs.Job.{Edge, Job, noEdge, link, maxNodes, maxEdges, maxNumber, fields, jobNumbers, jobFrame, graphOf, costOf}
 use Rattle.frame.specs.Questions.{jobFrom, jobOf, question6, ask, formRefusal, refusal}
 use Rattle.frame.specs.Services.{smallEdge, small, counted, listRefusal}
-use Rattle.frame.specs.Meaning.{Small, EndsHold, MarksHold, TreeHolds, Formed, FirstNo}
+use Rattle.frame.specs.Meaning.{Small, EndsHold, MarksHold, TreeHolds, Formed, FirstNo, Accepted}
 use Rattle.frame.specs.Meaning.FirstNo.{no1, no2, no3, no4, no5, no6, none}
 use Rattle.frame.specs.Form.{ends-sound, question4-means, question5-means, question6-means, first-no, first-no-unique, form-refusal, beforeTree}
 use Rattle.frame.specs.RoundTrip.{job-numbers, formed, job-of, write-read}
 use Rattle.frame.specs.Lists.{Listed, ask-passed, list-passed, small-job, counted-limits, list-as-frame, list-read}
-
--- An accepted job.
-pub record Accepted (j : Job) : Type 0 where
-  pub some-node : 1 ≤ j .nodes
-  pub node-limit : j .nodes ≤ maxNodes
-  pub edge-limit : length (j .links) ≤ maxEdges
-  pub small : Small (jobNumbers j)
-  pub sound : Sound (graphOf j)
-  pub marks : MarksHold j
-  pub tree : TreeHolds j
 
 -- ---- frames
 

@@ -29,8 +29,9 @@ use Rattle.optimum.specs.Solve.{gap}
 use Rattle.optimum.specs.Distance.{distance-is}
 use Rattle.frame.specs.Job.{Job, graphOf, treeOf, costOf}
 use Rattle.frame.specs.Answers.{readAnswer, rankOf, pairHolds, noPair, pairsRise, pairsWeight, answerHolds, judgeRead, judgeAnswer, judgeTree}
-use Rattle.frame.specs.Accepted.{Accepted}
-use Rattle.frame.specs.AnswerLayout.{AnswerOf, layout-read, read-means}
+use Rattle.frame.specs.Meaning.{Accepted}
+use Rattle.frame.specs.AnswerMeaning.{AnswerOf, Certificate, Certified}
+use Rattle.frame.specs.AnswerLayout.{layout-read, read-means}
 
 -- The sum of the new costs' differences from the old ones is their deviation.
 gap-deviation :
@@ -38,20 +39,6 @@ gap-deviation :
 gap-deviation g c new =
     sum-same (g .edges) (λ e. gap (new e) (c e)) (λ e. natAbs (pos (new e) -ℤ pos (c e)))
     (λ e h. sym (distance-is (pos (new e)) (c e)))
-
--- What an answer's steps, costs and pairing must be for the three to prove each other best.
-pub record Certificate (g : Graph) (tr : EdgeSet) (c : ℕ → ℕ) (a : Answer) : Type 0 where
-  pub steps : a .steps ≡ deviation g c (chosen a)
-  pub minimum : Minimum g tr (chosen a)
-  pub matching : Matching g tr (a .pairs)
-  pub rising : Rising (a .pairs)
-  pub falls : Falls c (a .pairs)
-  pub weighs : weight c (a .pairs) ≡ pos (a .steps)
-
--- The frame s is laid out as the answer a to the job j, with nothing following, and a proves itself best.
-pub record Certified (j : Job) (s : List ℕ) (a : Answer) : Type 0 where
-  pub layout : AnswerOf (length (j .links)) s a
-  pub certificate : Certificate (graphOf j) (treeOf j) (costOf j) a
 
 -- ---- pairs
 

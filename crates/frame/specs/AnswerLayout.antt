@@ -22,15 +22,9 @@ use Rattle.frame.specs.Job.{stepBytes, bytesOf}
 use Rattle.frame.specs.Questions.{numbers}
 use Rattle.frame.specs.Answers.{answerNumbers, answerFrame, pairFrom, pairsFrom, noPair, answerFrom, answerBehind, readAnswer}
 use Rattle.frame.specs.Meaning.{Small, Divides}
+use Rattle.frame.specs.AnswerMeaning.{AnswerOf}
 use Rattle.frame.specs.Division.{division, divide-complete}
 use Rattle.frame.specs.RoundTrip.{flatMap-append}
-
--- The frame s is laid out as the answer a to a job of m links, with nothing following.
-pub record AnswerOf (m : ℕ) (s : List ℕ) (a : Answer) : Type 0 where
-  pub joined : answerFrame a ≡ s
-  pub step-limit : a .steps < 128 ^ stepBytes
-  pub small : Small (answerNumbers a)
-  pub count : length (a .costs) ≡ m
 
 -- ---- pairs and their numbers
 

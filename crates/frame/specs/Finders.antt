@@ -19,7 +19,8 @@ use Rattle.frame.specs.Services.{linkOffset, linkLength, partWhen, linkP
 use Rattle.frame.specs.Division.{division}
 use Rattle.frame.specs.RoundTrip.{flatMap-append}
 use Rattle.frame.specs.Accepted.{accepted, write-read6}
-use Rattle.frame.specs.AnswerLayout.{AnswerOf, layout-read}
+use Rattle.frame.specs.AnswerMeaning.{AnswerOf}
+use Rattle.frame.specs.AnswerLayout.{layout-read}
 
 -- What stands behind xs and before zs.
 between : {A : Type 0} (xs ys zs : List A) → take (length ys) (drop (length xs) (xs ++ (ys ++ zs))) ≡ ys

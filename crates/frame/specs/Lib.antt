@@ -4,6 +4,7 @@ pub mod Questions
 pub mod Answers
 pub mod Services
 pub mod Meaning
+pub mod AnswerMeaning
 pub mod Division
 pub mod Form
 pub mod RoundTrip

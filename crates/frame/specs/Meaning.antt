@@ -5,8 +5,8 @@ use mathlib.Core.Path.{_≡_}
 use mathlib.Core.Logic.{_≢_, _⊎_}
 use mathlib.Core.List.{List}
 use lib.ListN.{length, getD}
-use Rattle.graph.specs.Graph.{SpanningTree}
-use Rattle.frame.specs.Job.{Job, link, maxNodes, maxEdges, maxNumber, bytesOf, graphOf, treeOf}
+use Rattle.graph.specs.Graph.{Sound, SpanningTree}
+use Rattle.frame.specs.Job.{Job, link, maxNodes, maxEdges, maxNumber, jobNumbers, bytesOf, graphOf, treeOf}
 use Rattle.frame.specs.Questions.{nodeCount, edgeCount, jobFrom}
 
 -- Numbers of at most 16,383.
@@ -60,3 +60,13 @@ pub data FirstNo (s : List ℕ) : ℕ → Type 0 where
   no5 : (ns : List ℕ) → Divides s ns → Counted ns → Complete ns → EndsHold (jobFrom ns) → (MarksHold (jobFrom ns) → ⊥) → FirstNo s 5
   no6 : (ns : List ℕ) → Formed s ns → (TreeHolds (jobFrom ns) → ⊥) → FirstNo s 6
   none : (ns : List ℕ) → Formed s ns → TreeHolds (jobFrom ns) → FirstNo s 0
+
+-- An accepted job: one whose frame passes questions 1 to 6.
+pub record Accepted (j : Job) : Type 0 where
+  pub some-node : 1 ≤ j .nodes
+  pub node-limit : j .nodes ≤ maxNodes
+  pub edge-limit : length (j .links) ≤ maxEdges
+  pub small : Small (jobNumbers j)
+  pub sound : Sound (graphOf j)
+  pub marks : MarksHold j
+  pub tree : TreeHolds j

@@ -14,11 +14,12 @@ use Rattle.optimum.specs.Demand.{demand}
 use Rattle.optimum.specs.Range.{new-most, pairs-few, steps-few}
 use Rattle.frame.specs.Job.{Job, maxNumber, numberBytes, stepBytes, bytesOf, graphOf, treeOf, costOf}
 use Rattle.frame.specs.Answers.{answerNumbers, answerFrame, answerOf, readAnswer, judgeAnswer}
-use Rattle.frame.specs.Meaning.{Small}
+use Rattle.frame.specs.Meaning.{Small, Accepted}
 use Rattle.frame.specs.Division.{small-cons}
 use Rattle.frame.specs.RoundTrip.{flatMap-append}
-use Rattle.frame.specs.Accepted.{Accepted, cost-small}
-use Rattle.frame.specs.AnswerLayout.{AnswerOf, length-both, layout-read}
+use Rattle.frame.specs.Accepted.{cost-small}
+use Rattle.frame.specs.AnswerMeaning.{AnswerOf}
+use Rattle.frame.specs.AnswerLayout.{length-both, layout-read}
 use Rattle.frame.specs.AnswerJudge.{certified-judged}
 
 small-append : (xs ys : List ℕ) → Small xs → Small ys → Small (xs ++ ys)

@@ -9,3 +9,4 @@ pub mod WritingLaws
 pub mod ListLaws
 pub mod Finding
 pub mod JobRoundTrip
+pub mod Held
