@@ -47,7 +47,7 @@ module _ (ls : List Edge) (as₁ as₂ as₃ as₄ : List ℕ) (h₁ : length ls
       let m : i < length ls = omega (arith, length-tabulate row (length ls)) in
       getD-tabulate row (length ls) i noEdge m ∙ row-is i m
 
-links-few : (s : List ℕ) → Bytes s → formRefusal s ≡ 0 → length (jobOf s .links) ≤ 256
+pub links-few : (s : List ℕ) → Bytes s → formRefusal s ≡ 0 → length (jobOf s .links) ≤ 256
 links-few s b z =
     let (ns, f) = formed s b z in
     let four : length (drop 2 ns) ≡ 4 * edgeCount ns = omega (arith, length-drop 2 ns, f .complete) in

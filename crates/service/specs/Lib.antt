@@ -1,0 +1,4 @@
+-- What the services say, by the definitions of the frame, and laws about it.
+pub mod Accepting
+pub mod AcceptLaws
+pub mod ArrayLaws

@@ -1,0 +1,2 @@
+// The public face: services on job and answer frames. None of them has a `requires`.
+pub mod accept;

@@ -1,0 +1,28 @@
+-- What the functions between edges and ranks ask of their arrays, and when an edge covers a rank by its ends' masks.
+-- Definitions only. Assumes nothing.
+use Prim.Native.Nat.{ℕ, _-_, _≤_, _<_}
+use mathlib.Core.Path.{_≡_}
+use mathlib.Core.Bool.{Bool, xor}
+use mathlib.Core.List.{List}
+use lib.ListN.{length, getD}
+use Rattle.bits.specs.Bit.{bit}
+
+-- Edge e covers the tree edge of rank t: just one of its ends' masks has t.
+abbrev pub covers : List ℕ → List ℕ → List ℕ → ℕ → ℕ → Bool
+covers end₁ end₂ mask e t = xor (bit (getD mask (getD end₁ e 0) 0) t) (bit (getD mask (getD end₂ e 0) 0) t)
+
+-- The first `count` places of an array of 256 hold edges.
+pub record Ranks (count : ℕ) (ranks : List ℕ) : Type 0 where
+  pub places : length ranks ≡ 256
+  pub most : count ≤ 256
+  pub edges : (k : ℕ) → k < count → getD ranks k 0 < 256
+
+-- The ends of those edges are nodes.
+pub record Ends (count : ℕ) (ranks end₁ end₂ : List ℕ) : Type 0 where
+  pub first : (k : ℕ) → k < count → getD end₁ (getD ranks k 0) 0 < 64
+  pub second : (k : ℕ) → k < count → getD end₂ (getD ranks k 0) 0 < 64
+
+-- The first `count` mates are 0, or one more than a tree rank with an edge.
+pub record Mated (count : ℕ) (mates ts : List ℕ) : Type 0 where
+  pub ranks : (s : ℕ) → s < count → getD mates s 0 ≤ 256
+  pub edges : (s : ℕ) → s < count → 0 < getD mates s 0 → getD ts (getD mates s 0 - 1) 0 < 256

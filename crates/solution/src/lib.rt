@@ -1,0 +1,160 @@
+// From edges to ranks and back: the rows of the ranks that each spare edge covers; and new costs, mates, steps and the
+// number of pairs from what the search found by rank (specs/Asked.antt).
+ghost use mathlib.Core.Path.{_≡_};
+ghost use mathlib.Core.Bool.{_&&_, _||_};
+ghost use Prim.Native.Nat.{ℕ, _-_, _<_, _≤_};
+ghost use lib.Dec.{eqb, ltb};
+ghost use lib.ListN.{length, getD, replicate, take};
+ghost use Rattle.loops.specs.Loop.{sum, gather};
+ghost use Rattle.bits.specs.Bit.{bit};
+ghost use Rattle.sets.specs.Sets.{inRow};
+ghost use Rattle.optimum.specs.Solve.{place, join, partners, pairAt, gap};
+ghost use Rattle.solution.specs.Asked.{covers, Ranks, Ends, Mated};
+use ids::Edge;
+use ids::SpareRank;
+
+// The set of the tree ranks that an edge covers.
+fn covered(e: Edge, end1: &[u32; 256], end2: &[u32; 256], mask: &[u64; 64]) -> u64
+    requires { ⌜ (e .0 < 256) × (getD (now end1) (e .0) 0 < 64) × (getD (now end2) (e .0) 0 < 64) ⌝ }
+    ensures { λ r. ⌜ ((t : ℕ) → bit r t ≡ covers (now (end1 .entry)) (now (end2 .entry)) (now (mask .entry)) (e .0) t) ⌝ }
+{
+    let k = e.0 as usize;
+    let a = end1[k] as usize;
+    let b = end2[k] as usize;
+    bits::differ(mask[a], mask[b])
+}
+
+// Puts a spare rank into the rows of a set of tree ranks.
+fn fill(spare: SpareRank, trees: u64, rows: &mut [u64; 256])
+    requires { ⌜ (spare .0 < 256) × (length (now rows) ≡ 256) ⌝ }
+    ensures members { λ r. ⌜ ((t s : ℕ) → s < 256 → inRow (now (rows .exit)) t s ≡ (inRow (now (rows .entry)) t s || (eqb (spare .0) s && bit trees t))) ⌝ }
+    ensures length { λ r. ⌜ length (now (rows .exit)) ≡ 256 ⌝ }
+{
+    let s = spare.0;
+    let mut left = trees;
+    while left != 0 {
+        let t = bits::lowest(left);
+        sets::insert_in_row(rows, t, s);
+        left = bits::without_lowest(left);
+    }
+}
+
+// Fills empty rows: each spare rank goes into the rows of the tree ranks that its edge covers.
+pub fn fill_rows(
+    q: usize,
+    ss: &[u32; 256],
+    end1: &[u32; 256],
+    end2: &[u32; 256],
+    mask: &[u64; 64],
+    rows: &mut [u64; 256],
+)
+    requires ranks { ⌜ Ranks q (now ss) ⌝ }
+    requires ends { ⌜ Ends q (now ss) (now end1) (now end2) ⌝ }
+    requires empty { ⌜ now rows ≡ replicate 256 0 ⌝ }
+    ensures members { λ r. ⌜ ((t s : ℕ) → s < 256 → inRow (now (rows .exit)) t s
+        ≡ (ltb s q && covers (now (end1 .entry)) (now (end2 .entry)) (now (mask .entry)) (getD (now (ss .entry)) s 0) t)) ⌝ }
+    ensures length { λ r. ⌜ length (now (rows .exit)) ≡ 256 ⌝ }
+{
+    let mut s: usize = 0;
+    while s < q {
+        let e = ss[s];
+        let trees = covered(Edge(e), end1, end2, mask);
+        let spare = s as u32;
+        fill(SpareRank(spare), trees, rows);
+        s += 1;
+    }
+}
+
+// Puts each rank's label at its edge.
+pub fn place(ranks: &[u32; 256], count: usize, label: &[u32; 256], costs: &mut [u32; 256])
+    requires ranks { ⌜ Ranks count (now ranks) ⌝ }
+    requires length { ⌜ length (now costs) ≡ 256 ⌝ }
+    ensures costs { λ r. ⌜ (λ e. getD (now (costs .exit)) e 0) ≡ place (take count (now (ranks .entry))) (λ k. getD (now (label .entry)) k 0) (λ e. getD (now (costs .entry)) e 0) ⌝ }
+    ensures length { λ r. ⌜ length (now (costs .exit)) ≡ 256 ⌝ }
+{
+    let mut k: usize = 0;
+    while k < count {
+        let e = ranks[k] as usize;
+        costs[e] = label[k];
+        k += 1;
+    }
+}
+
+// Gives a spare edge's number, plus one, to the tree edge of rank t as its mate, for m = t + 1; nothing for m = 0.
+fn join(ts: &[u32; 256], spare: Edge, m: u32, mate: &mut [u32; 256])
+    requires { ⌜ (spare .0 < 256) × (length (now mate) ≡ 256) ⌝ }
+    requires rank { ⌜ (m ≤ 256) × (0 < m → getD (now ts) (m - 1) 0 < 256) ⌝ }
+    ensures mate { λ r. ⌜ (λ e. getD (now (mate .exit)) e 0) ≡ join (now (ts .entry)) (spare .0) m (λ e. getD (now (mate .entry)) e 0) ⌝ }
+    ensures length { λ r. ⌜ length (now (mate .exit)) ≡ 256 ⌝ }
+{
+    if m == 0 {
+        return;
+    }
+    let t = (m - 1) as usize;
+    let e = ts[t] as usize;
+    mate[e] = spare.0 + 1;
+}
+
+// The mate of each tree edge, from the mate of each spare rank.
+pub fn partners(
+    ts: &[u32; 256],
+    ss: &[u32; 256],
+    q: usize,
+    mates: &[u32; 256],
+    mate: &mut [u32; 256],
+)
+    requires spares { ⌜ Ranks q (now ss) ⌝ }
+    requires trees { ⌜ Mated q (now mates) (now ts) ⌝ }
+    requires empty { ⌜ now mate ≡ replicate 256 0 ⌝ }
+    ensures mate { λ r. ⌜ ((p : ℕ) → ((s : ℕ) → s < q → getD (now (mates .entry)) s 0 ≤ p)
+        → (λ e. getD (now (mate .exit)) e 0) ≡ partners (take p (now (ts .entry))) (take q (now (ss .entry))) (λ s. getD (now (mates .entry)) s 0)) ⌝ }
+    ensures length { λ r. ⌜ length (now (mate .exit)) ≡ 256 ⌝ }
+{
+    let mut rank: usize = 0;
+    while rank < q {
+        let e = ss[rank];
+        let m = mates[rank];
+        join(ts, Edge(e), m, mate);
+        rank += 1;
+    }
+}
+
+// The absolute difference.
+fn gap(x: u32, y: u32) -> u32
+    ensures { λ r. ⌜ r ≡ gap x y ⌝ }
+{
+    if x < y {
+        return y - x;
+    }
+    x - y
+}
+
+// The sum, over all edges, of the absolute difference between new and old cost.
+pub fn steps(edges: usize, cost: &[u32; 256], costs: &[u32; 256]) -> u64
+    requires { ⌜ edges ≤ 256 ⌝ }
+    ensures { λ r. ⌜ r ≡ sum edges (λ e. gap (getD (now (costs .entry)) e 0) (getD (now (cost .entry)) e 0)) ⌝ }
+{
+    let mut total: u64 = 0;
+    let mut e: usize = 0;
+    while e < edges {
+        total += gap(costs[e], cost[e]) as u64;
+        e += 1;
+    }
+    total
+}
+
+// How many edges have a mate.
+pub fn count_pairs(edges: usize, mate: &[u32; 256]) -> usize
+    requires { ⌜ edges ≤ 256 ⌝ }
+    ensures { λ r. ⌜ r ≡ length (gather edges (λ e. pairAt e (getD (now (mate .entry)) e 0))) ⌝ }
+{
+    let mut count: usize = 0;
+    let mut e: usize = 0;
+    while e < edges {
+        if mate[e] != 0 {
+            count += 1;
+        }
+        e += 1;
+    }
+    count
+}

@@ -1,0 +1,95 @@
+-- Arrays as a graph, its tree, its costs and its tree paths; what the functions over them require and give.
+-- Definitions only. Assumes nothing.
+use Prim.Native.Nat.{ℕ, _≤_, _<_}
+use mathlib.Core.Path.{_≡_}
+use mathlib.Core.Bool.{Bool, true, false, cond, not, xor, _||_}
+use mathlib.Core.List.{List}
+use lib.Dec.{leb, eqb}
+use lib.ListN.{length, getD, take}
+use Rattle.loops.specs.Loop.{allBelow}
+use Rattle.bits.specs.Bit.{bit}
+use Rattle.graph.specs.Graph.{Graph, EdgeSet}
+use Rattle.graph.specs.Paths.{Rooted, attach, rooted}
+use Rattle.tree.specs.declared.Front.{Front}
+
+-- Links in arrays: link e joins the stations at place e of the arrays of first and second ends.
+abbrev pub arrayGraph : ℕ → ℕ → List ℕ → List ℕ → Graph
+arrayGraph nodes edges as₁ as₂ =
+    record { nodes = nodes; edges = edges; end₁ = λ e. getD as₁ e 0; end₂ = λ e. getD as₂ e 0; live = λ _. true }
+
+-- The links marked 1.
+abbrev pub arrayTree : List ℕ → EdgeSet
+arrayTree as₄ e = eqb (getD as₄ e 0) 1
+
+abbrev pub arrayCost : List ℕ → ℕ → ℕ
+arrayCost as₃ e = getD as₃ e 0
+
+-- Tree paths in masks: digit k of the word at place v says that the path of node v takes the tree edge of rank k.
+abbrev pub paths : List ℕ → ℕ → ℕ → Bool
+paths mask v = bit (getD mask v 0)
+
+-- The ranks on just one of the paths of two nodes.
+abbrev pub across : List ℕ → ℕ → ℕ → ℕ → Bool
+across mask a b k = xor (paths mask a k) (paths mask b k)
+
+-- What has been found, as the code holds it.
+abbrev pub held : Front → List ℕ → Rooted
+held front mask = record { found = front .found; reached = bit (front .reached); path = paths mask }
+
+-- One tree edge tried, of rank k and between nodes u and v.
+abbrev pub tried : ℕ → ℕ → ℕ → Rooted → Rooted
+tried u v k st = cond (st .reached u) (cond (st .reached v) st (attach u v k st)) (cond (st .reached v) (attach v u k st) st)
+
+-- Node, node and rank below 64, 64 masks, and a number of found nodes that can grow.
+pub record Room (found u v k : ℕ) (mask : List ℕ) : Type 0 where
+  pub few : found < 65536
+  pub first : u < 64
+  pub second : v < 64
+  pub rank : k < 64
+  pub places : length mask ≡ 64
+
+-- The first `count` places of `ranks` name edges of the arrays, each between two nodes.
+pub record Ranked (nodes count : ℕ) (ranks as₁ as₂ : List ℕ) : Type 0 where
+  pub small : nodes ≤ 64
+  pub few : count ≤ 64
+  pub within : count ≤ length ranks
+  pub edge : (k : ℕ) → k < count → getD ranks k 0 < 256
+  pub first : (k : ℕ) → k < count → getD as₁ (getD ranks k 0) 0 < nodes
+  pub second : (k : ℕ) → k < count → getD as₂ (getD ranks k 0) 0 < nodes
+
+-- What the search from node 0 gives: the number of nodes found, and the tree paths. How many links the arrays hold is
+-- all one to it.
+pub record Walked (nodes count : ℕ) (ranks as₁ as₂ : List ℕ) (r : ℕ) (mask : List ℕ) : Type 0 where
+  pub found : (edges : ℕ) → r ≡ rooted (arrayGraph nodes edges as₁ as₂) (take count ranks) .found
+  pub paths : (edges : ℕ) → paths mask ≡ rooted (arrayGraph nodes edges as₁ as₂) (take count ranks) .path
+  pub places : length mask ≡ 64
+
+-- Spare s does not cost less than the tree edge of rank k.
+abbrev pub affords : List ℕ → List ℕ → ℕ → ℕ → Bool
+affords ranks as₃ s k = leb (getD as₃ (getD ranks k 0) 0) (getD as₃ s 0)
+
+-- It does not cost less than any tree edge that it covers.
+abbrev pub spareHolds : List ℕ → List ℕ → List ℕ → List ℕ → List ℕ → ℕ → Bool
+spareHolds ranks as₁ as₂ as₃ mask s =
+    allBelow 64 λ k. not (across mask (getD as₁ s 0) (getD as₂ s 0) k) || affords ranks as₃ s k
+
+-- A link in the tree, or a spare that holds.
+abbrev pub linkHolds : List ℕ → List ℕ → List ℕ → List ℕ → List ℕ → List ℕ → ℕ → Bool
+linkHolds ranks as₁ as₂ as₃ as₄ mask s = arrayTree as₄ s || spareHolds ranks as₁ as₂ as₃ mask s
+
+-- A link of the arrays between two nodes, whose covered ranks name edges.
+pub record Spare (s : ℕ) (ranks as₁ as₂ mask : List ℕ) : Type 0 where
+  pub link : s < 256
+  pub first : getD as₁ s 0 < 64
+  pub second : getD as₂ s 0 < 64
+  pub edge : (k : ℕ) → across mask (getD as₁ s 0) (getD as₂ s 0) k ≡ true → getD ranks k 0 < 256
+
+-- Links of the arrays between nodes, `count` ranks that name edges, and no other rank in the masks.
+pub record Judged (edges count : ℕ) (ranks as₁ as₂ mask : List ℕ) : Type 0 where
+  pub links : edges ≤ 256
+  pub few : count ≤ 64
+  pub within : count ≤ length ranks
+  pub edge : (k : ℕ) → k < count → getD ranks k 0 < 256
+  pub first : (e : ℕ) → e < edges → getD as₁ e 0 < 64
+  pub second : (e : ℕ) → e < edges → getD as₂ e 0 < 64
+  pub below : (v k : ℕ) → count ≤ k → paths mask v k ≡ false

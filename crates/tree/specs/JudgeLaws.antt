@@ -1,0 +1,168 @@
+-- Laws of the judge, in the shape of the code: one covered rank taken out of a word, a test of all the ranks of a word, one
+-- link, and what the test of all links comes to in the model. Assumes nothing.
+use Prim.Native.Nat.{ℕ, _^_, _≤_, _<_, _-_}
+use native.Mathlib.Decide.{decLt, ℕ-discrete}
+use native.Mathlib.Omega.{arith}
+use mathlib.Core.Path.{_≡_, refl, sym, ap, _∙_}
+use mathlib.Core.Logic.{inl, inr}
+use mathlib.Core.Bool.{Bool, true, false, not, xor, _&&_, _||_}
+use mathlib.Core.List.{List}
+use lib.Dec.{eqb}
+use lib.ListN.{getD, take}
+use lib.Seq.{length-take-le, getD-take}
+use borrow.Author.Tests.{eq-eqb, ne-eqb}
+use Rattle.loops.specs.Loop.{put, allBelow, first}
+use Rattle.loops.specs.PutLaws.{put-same, put-other}
+use Rattle.loops.specs.FirstLaws.{first-is}
+use Rattle.loops.specs.TestLaws.{truth, clash, and-first, all-at, all-of, all-miss, all-same}
+use Rattle.bits.specs.Bit.{bit}
+use Rattle.bits.specs.BitLaws.{bit-zero, first-below}
+use Rattle.bits.specs.ChangeLaws.{or-test, removed}
+use Rattle.graph.specs.Paths.{rooted, coversRank, judge}
+use Rattle.tree.specs.Arrays.{arrayGraph, arrayTree, arrayCost, paths, across, spareHolds, linkHolds, Ranked, Spare, Judged}
+use Rattle.tree.specs.SweepLaws.{path-below}
+
+-- ---- the ranks of a word
+
+-- Every rank of the word w passes.
+abbrev pub wordHolds : (ℕ → Bool) → ℕ → Bool
+wordHolds ok w = allBelow 64 λ k. not (bit w k) || ok k
+
+module _ (w : ℕ) (some : 0 < w) (fits : w < 2 ^ 64) (k : ℕ) (low : k ≡ first 64 (bit w)) where
+  pub lowest-below : k < 64
+  lowest-below = omega (arith, first-below 64 w some fits)
+
+  pub lowest-set : bit w k ≡ true
+  lowest-set = rw low (first-is 64 (bit w) .hit (first-below 64 w some fits))
+
+  pub word-miss : (ok : ℕ → Bool) → ok k ≡ false → wordHolds ok w ≡ false
+  word-miss ok no-k = all-miss 64 (λ j. not (bit w j) || ok j) k lowest-below (rw (lowest-set, no-k))
+
+  -- The word without its lowest rank.
+  module _ (w′ : ℕ) (rest : (j : ℕ) → bit w′ j ≡ (bit w j && not (eqb j (first 64 (bit w))))) where
+    pub word-part : (j : ℕ) → bit w′ j ≡ true → bit w j ≡ true
+    word-part j h = and-first _ _ (sym (rest j) ∙ h)
+
+    taken-out : bit w′ ≡ put (bit w) (first 64 (bit w)) false
+    taken-out = removed (bit w) (bit w′) (first 64 (bit w)) rest
+
+    none-lower : (j : ℕ) → j ≤ first 64 (bit w) → bit w′ j ≡ false
+    none-lower j l =
+        ap (λ f. f j) taken-out
+        ∙ elim (ℕ-discrete j (first 64 (bit w))) [
+          | yes e ↦ rw e (put-same (bit w) (first 64 (bit w)) false)
+          | no d ↦ put-other (bit w) (first 64 (bit w)) false j d ∙ first-is 64 (bit w) .before j (omega arith)
+        ]
+
+    -- Its lowest rank is higher.
+    pub word-less : 64 - first 64 (bit w′) < 64 - first 64 (bit w)
+    word-less =
+        let below : first 64 (bit w) < 64 = first-below 64 w some fits in
+        elim (decLt (first 64 (bit w)) (first 64 (bit w′))) [
+          | yes l ↦ omega arith
+          | no l ↦ clash (first-is 64 (bit w′) .hit (omega arith)) (none-lower (first 64 (bit w′)) (omega arith))
+        ]
+
+    pub word-turn : (ok : ℕ → Bool) → ok k ≡ true → wordHolds ok w′ ≡ wordHolds ok w
+    word-turn ok yes-k =
+        all-same 64 _ _ (λ j l. elim (ℕ-discrete j k) [
+          | yes e ↦ rw (e, yes-k) (or-test (not (bit w′ k)) true ∙ sym (or-test (not (bit w k)) true))
+          | no d ↦
+              ap (λ b. not b || ok j)
+              (ap (λ f. f j) taken-out ∙ put-other (bit w) (first 64 (bit w)) false j (λ e. d (e ∙ sym low)))
+        ])
+
+pub word-end : (ok : ℕ → Bool) (w : ℕ) → w ≡ 0 → wordHolds ok w ≡ true
+word-end ok w e = all-of 64 _ (λ j l. rw (e, bit-zero j))
+
+-- The word of the ranks between two nodes.
+pub word-across :
+    (mask : List ℕ) (a b w : ℕ) (ok : ℕ → Bool) → ((k : ℕ) → bit w k ≡ across mask a b k)
+    → wordHolds ok w ≡ allBelow 64 (λ k. not (across mask a b k) || ok k)
+word-across mask a b w ok h = all-same 64 _ _ (λ k l. ap (λ t. not t || ok k) (h k))
+
+-- In the model these are the ranks that an edge covers.
+pub across-covers :
+    (nodes edges : ℕ) (as₁ as₂ mask R : List ℕ) → paths mask ≡ rooted (arrayGraph nodes edges as₁ as₂) R .path
+    → (s k : ℕ)
+    → across mask (getD as₁ s 0) (getD as₂ s 0) k
+    ≡ coversRank (arrayGraph nodes edges as₁ as₂) (rooted (arrayGraph nodes edges as₁ as₂) R) s k
+across-covers nodes edges as₁ as₂ mask R same s k = ap (λ p. xor (p (getD as₁ s 0) k) (p (getD as₂ s 0) k)) same
+
+-- ---- one link
+
+module _ (ranks as₁ as₂ as₃ as₄ mask : List ℕ) (s : ℕ) where
+  pub link-marked : getD as₄ s 0 ≡ 1 → linkHolds ranks as₁ as₂ as₃ as₄ mask s ≡ true
+  link-marked e = rw (eq-eqb (getD as₄ s 0) 1 e)
+
+  pub link-spare : (getD as₄ s 0 ≡ 1 → ⊥) → linkHolds ranks as₁ as₂ as₃ as₄ mask s ≡ spareHolds ranks as₁ as₂ as₃ mask s
+  link-spare d = rw (ne-eqb (getD as₄ s 0) 1 d)
+
+-- ---- all links
+
+all-longer :
+    (n m : ℕ) (p : ℕ → Bool) → n ≤ m → ((k : ℕ) → n ≤ k → p k ≡ true) → allBelow n p ≡ allBelow m p
+all-longer n m p l past =
+    elim (truth (allBelow m p)) [
+      | inl h ↦ all-of n p (λ i b. all-at m p h i (omega arith)) ∙ sym h
+      | inr h ↦
+          elim (truth (allBelow n p)) [
+            | inl a ↦ clash (all-of m p (λ i b. elim (decLt i n) [ yes c ↦ all-at n p a i c | no c ↦ past i (omega arith) ])) h
+            | inr a ↦ a ∙ sym h
+          ]
+    ]
+
+-- Ranks past the last lie between no nodes.
+across-past :
+    (edges count : ℕ) (ranks as₁ as₂ mask : List ℕ) → Judged edges count ranks as₁ as₂ mask
+    → (a b k : ℕ) → count ≤ k → across mask a b k ≡ false
+unfolding xor
+across-past edges count ranks as₁ as₂ mask h a b k l = rw (h .below a k l, h .below b k l)
+
+pub judged-spare :
+    (edges count : ℕ) (ranks as₁ as₂ mask : List ℕ) → Judged edges count ranks as₁ as₂ mask
+    → (s : ℕ) → s < edges → Spare s ranks as₁ as₂ mask
+judged-spare edges count ranks as₁ as₂ mask h s l =
+    record {
+      link = omega (arith, h .links);
+      first = h .first s l;
+      second = h .second s l;
+      edge = λ k c. elim (decLt k count) [
+        | yes b ↦ h .edge k b
+        | no b ↦ clash c (across-past edges count ranks as₁ as₂ mask h (getD as₁ s 0) (getD as₂ s 0) k (omega arith))
+      ];
+    }
+
+-- What the search gives is what the judge requires.
+pub walked-judged :
+    (nodes edges count : ℕ) (ranks as₁ as₂ mask : List ℕ) → Ranked nodes count ranks as₁ as₂ → edges ≤ 256
+    → ((e : ℕ) → e < edges → getD as₁ e 0 < nodes) → ((e : ℕ) → e < edges → getD as₂ e 0 < nodes)
+    → paths mask ≡ rooted (arrayGraph nodes edges as₁ as₂) (take count ranks) .path
+    → Judged edges count ranks as₁ as₂ mask
+walked-judged nodes edges count ranks as₁ as₂ mask h l e₁ e₂ same =
+    record {
+      links = l;
+      few = h .few;
+      within = h .within;
+      edge = h .edge;
+      first = λ e b. omega (arith, h .small, e₁ e b);
+      second = λ e b. omega (arith, h .small, e₂ e b);
+      below = λ v k b.
+        ap (λ f. f v k) same
+        ∙ path-below (arrayGraph nodes edges as₁ as₂) (take count ranks) v k (omega (arith, length-take-le count ranks (h .within)));
+    }
+
+marked : (t x y : Bool) → x ≡ y → (t || x) ≡ (not (true && not t) || y)
+marked true x y e = refl
+marked false x y e = e
+
+pub judge-links :
+    (nodes edges count : ℕ) (ranks as₁ as₂ as₃ as₄ mask : List ℕ) → Judged edges count ranks as₁ as₂ mask
+    → paths mask ≡ rooted (arrayGraph nodes edges as₁ as₂) (take count ranks) .path
+    → allBelow edges (linkHolds ranks as₁ as₂ as₃ as₄ mask)
+    ≡ judge (arrayGraph nodes edges as₁ as₂) (arrayTree as₄) (arrayCost as₃) (take count ranks)
+unfolding judge
+judge-links nodes edges count ranks as₁ as₂ as₃ as₄ mask h same =
+    all-same edges _ _ (λ s l. marked (arrayTree as₄ s) _ _
+    (sym (all-longer count 64 _ (h .few) (λ k b. rw (across-past edges count ranks as₁ as₂ mask h (getD as₁ s 0) (getD as₂ s 0) k b)))
+    ∙ rw (length-take-le count ranks (h .within)) (all-same count _ _ (λ k b. rw (across-covers nodes edges as₁ as₂ mask (take count ranks) same s k, getD-take count ranks k 0 b)))))

@@ -1,0 +1,209 @@
+// Tree paths from node 0 in masks, question 6 and the judge, over links held in arrays (specs/Arrays.antt).
+ghost use mathlib.Core.Path.{_≡_};
+ghost use mathlib.Core.Bool.{true};
+ghost use Prim.Native.Nat.{ℕ, _<_, _≤_};
+ghost use lib.ListN.{length, take};
+ghost use Rattle.bits.specs.Bit.{bit};
+ghost use Rattle.graph.specs.Paths.{attach, sweep, rooted, isTree, judge as judged};
+ghost use Rattle.tree.specs.Arrays.{arrayGraph, arrayTree, arrayCost, paths, across, held, tried, Room, Ranked, Walked, spareHolds, Spare, Judged};
+use ids::{Edge, Node, TreeRank};
+
+// What has been found from node 0: how many nodes, and which.
+pub struct Front {
+    pub found: u32,
+    pub reached: u64,
+}
+
+// Node v is reached from node u over the tree edge of rank k.
+fn reach(front: Front, u: Node, v: Node, k: TreeRank, mask: &mut [u64; 64]) -> Front
+    requires { ⌜ Room (front .found) (u .0) (v .0) (k .0) (now mask) ⌝ }
+    ensures state { λ r. ⌜ held r (now (mask .exit)) ≡ attach (u .0) (v .0) (k .0) (held front (now (mask .entry))) ⌝ }
+    ensures places { λ r. ⌜ length (now (mask .exit)) ≡ 64 ⌝ }
+{
+    let from = u.0 as usize;
+    let to = v.0 as usize;
+    mask[to] = bits::flip(mask[from], k.0);
+    let found = front.found + 1;
+    Front {
+        found: found,
+        reached: bits::with(front.reached, v.0),
+    }
+}
+
+// Tries the tree edge of rank k, between nodes u and v: if just one of them has been found, it leads to the other.
+fn grow(front: Front, u: Node, v: Node, k: TreeRank, mask: &mut [u64; 64]) -> Front
+    requires { ⌜ Room (front .found) (u .0) (v .0) (k .0) (now mask) ⌝ }
+    ensures state { λ r. ⌜ held r (now (mask .exit)) ≡ tried (u .0) (v .0) (k .0) (held front (now (mask .entry))) ⌝ }
+    ensures places { λ r. ⌜ length (now (mask .exit)) ≡ 64 ⌝ }
+{
+    if bits::has(front.reached, u.0) {
+        if bits::has(front.reached, v.0) {
+            return front;
+        }
+        return reach(front, u, v, k, mask);
+    }
+    if bits::has(front.reached, v.0) {
+        return reach(front, v, u, k, mask);
+    }
+    front
+}
+
+// Tries every tree edge once, by rank.
+fn sweep(
+    front: Front,
+    ranks: &[u32; 256],
+    count: usize,
+    end1: &[u32; 256],
+    end2: &[u32; 256],
+    mask: &mut [u64; 64],
+) -> Front
+    requires { ⌜ Ranked 64 count (now ranks) (now end1) (now end2) ⌝ }
+    requires { ⌜ (front .found ≤ 8192) × (length (now mask) ≡ 64) ⌝ }
+    ensures state {
+        λ r. ⌜ held r (now (mask .exit)) ≡ sweep (arrayGraph 64 256 (now (end1 .entry)) (now (end2 .entry))) (take count (now (ranks .entry))) (held front (now (mask .entry))) ⌝
+    }
+    ensures places { λ r. ⌜ length (now (mask .exit)) ≡ 64 ⌝ }
+{
+    let mut next = front;
+    let mut k: usize = 0;
+    while k < count {
+        let e = ranks[k] as usize;
+        let u = end1[e];
+        let v = end2[e];
+        let rank = k as u32;
+        next = grow(next, Node(u), Node(v), TreeRank(rank), mask);
+        k += 1;
+    }
+    next
+}
+
+// Finds the nodes that the tree edges join to node 0, and puts their paths into the masks; gives how many there are.
+pub fn root_paths(
+    nodes: u32,
+    ranks: &[u32; 256],
+    count: usize,
+    end1: &[u32; 256],
+    end2: &[u32; 256],
+    mask: &mut [u64; 64],
+) -> u32
+    requires { ⌜ Ranked nodes count (now ranks) (now end1) (now end2) ⌝ }
+    ensures {
+        λ r. ⌜ Walked nodes count (now (ranks .entry)) (now (end1 .entry)) (now (end2 .entry)) r (now (mask .exit)) ⌝
+    }
+{
+    *mask = [0u64; 64];
+    let mut front = Front {
+        found: 1,
+        reached: 1,
+    };
+    let mut rounds = nodes;
+    while 0 < rounds {
+        let next = sweep(front, ranks, count, end1, end2, mask);
+        if next.found == front.found {
+            return next.found;
+        }
+        front = next;
+        rounds -= 1;
+    }
+    front.found
+}
+
+// Question 6: are there (nodes − 1) tree edges, and do they join all nodes? If so, the masks hold the tree paths.
+pub fn question6(
+    nodes: u32,
+    ranks: &[u32; 256],
+    count: usize,
+    end1: &[u32; 256],
+    end2: &[u32; 256],
+    mask: &mut [u64; 64],
+) -> bool
+    requires { ⌜ Ranked nodes count (now ranks) (now end1) (now end2) ⌝ }
+    ensures answer {
+        λ r. ⌜ ((edges : ℕ) → r ≡ isTree (arrayGraph nodes edges (now (end1 .entry)) (now (end2 .entry))) (take count (now (ranks .entry)))) ⌝
+    }
+    ensures walked {
+        λ r. ⌜ (r ≡ true → Walked nodes count (now (ranks .entry)) (now (end1 .entry)) (now (end2 .entry)) nodes (now (mask .exit))) ⌝
+    }
+{
+    if count + 1 != nodes as usize {
+        return false;
+    }
+    let found = root_paths(nodes, ranks, count, end1, end2, mask);
+    found == nodes
+}
+
+// The ranks of the tree edges between two nodes.
+pub fn crossing(mask: &[u64; 64], a: Node, b: Node) -> u64
+    requires { ⌜ (a .0 < 64) × (b .0 < 64) ⌝ }
+    ensures { λ r. ⌜ ((k : ℕ) → bit r k ≡ across (now (mask .entry)) (a .0) (b .0) k) ⌝ }
+{
+    bits::differ(mask[a.0 as usize], mask[b.0 as usize])
+}
+
+// Does the tree edge of rank k lie between two nodes?
+pub fn covers(mask: &[u64; 64], a: Node, b: Node, k: TreeRank) -> bool
+    requires { ⌜ (a .0 < 64) × (b .0 < 64) × (k .0 < 64) ⌝ }
+    ensures { λ r. ⌜ r ≡ across (now (mask .entry)) (a .0) (b .0) (k .0) ⌝ }
+{
+    bits::has(crossing(mask, a, b), k.0)
+}
+
+// Does a spare cost at least as much as every tree edge that it covers?
+fn spare_holds(
+    spare: Edge,
+    ranks: &[u32; 256],
+    end1: &[u32; 256],
+    end2: &[u32; 256],
+    cost: &[u32; 256],
+    mask: &[u64; 64],
+) -> bool
+    requires { ⌜ Spare (spare .0) (now ranks) (now end1) (now end2) (now mask) ⌝ }
+    ensures {
+        λ r. ⌜ r ≡ spareHolds (now (ranks .entry)) (now (end1 .entry)) (now (end2 .entry)) (now (cost .entry)) (now (mask .entry)) (spare .0) ⌝
+    }
+{
+    let s = spare.0 as usize;
+    let limit = cost[s];
+    let a = end1[s];
+    let b = end2[s];
+    let mut left = crossing(mask, Node(a), Node(b));
+    while left != 0 {
+        let k = bits::lowest(left) as usize;
+        let t = ranks[k] as usize;
+        if limit < cost[t] {
+            return false;
+        }
+        left = bits::without_lowest(left);
+    }
+    true
+}
+
+// Does every spare cost at least as much as every tree edge that it covers? The masks hold the tree paths.
+pub fn judge(
+    edges: usize,
+    ranks: &[u32; 256],
+    count: usize,
+    end1: &[u32; 256],
+    end2: &[u32; 256],
+    cost: &[u32; 256],
+    mark: &[u32; 256],
+    mask: &[u64; 64],
+) -> bool
+    requires { ⌜ Judged edges count (now ranks) (now end1) (now end2) (now mask) ⌝ }
+    ensures {
+        λ r. ⌜ ((nodes : ℕ) → paths (now (mask .entry)) ≡ rooted (arrayGraph nodes edges (now (end1 .entry)) (now (end2 .entry))) (take count (now (ranks .entry))) .path
+            → r ≡ judged (arrayGraph nodes edges (now (end1 .entry)) (now (end2 .entry))) (arrayTree (now (mark .entry))) (arrayCost (now (cost .entry))) (take count (now (ranks .entry)))) ⌝
+    }
+{
+    let mut e: usize = 0;
+    while e < edges {
+        if mark[e] != 1 {
+            let s = e as u32;
+            if !spare_holds(Edge(s), ranks, end1, end2, cost, mask) {
+                return false;
+            }
+        }
+        e += 1;
+    }
+    true
+}

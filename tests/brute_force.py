@@ -1,0 +1,475 @@
+"""A brute-force reference for the jobs of document 01, and a generator of small jobs.
+
+It reads and judges frames by the document's words and finds answers by trying everything: all spanning trees, all choices
+of whole-number costs by rising steps (0 steps, 1 step, ..: no window, so negative costs are among them), all pairings.
+It knows no path test for "cheapest" and no search for pairings, so it shares no idea with the model that it is held against.
+
+Run: python3 tests/brute_force.py [COUNT]    solves COUNT small random jobs (default 100) and a larger one for every four,
+with the assertions below, and prints figures.
+Asserted of every solved job: one best choice is lowest at every link and stays between the smallest and the largest old
+cost; the greatest weight of a pairing equals the steps; the lowest costs follow from each best pairing as the document says.
+"""
+import random
+import sys
+from collections import Counter, namedtuple
+from itertools import combinations, count, product
+
+Link = namedtuple("Link", "end1 end2 cost mark")
+Job = namedtuple("Job", "stations links")
+Answer = namedtuple("Answer", "steps costs pairs")
+# All best choices of costs, the lowest of them, and all best pairings that an answer may list.
+Solution = namedtuple("Solution", "steps best lowest pairings")
+
+
+# Numbers: groups of seven bits, lowest group first, the top bit 1 in every byte but the last, shortest form only.
+
+def write_number(value):
+    groups = [value % 128]
+    while value >= 128:
+        value //= 128
+        groups.append(value % 128)
+    return bytes([group + 128 for group in groups[:-1]] + groups[-1:])
+
+
+def write_numbers(values):
+    return b"".join(write_number(value) for value in values)
+
+
+def pieces(frame):
+    """The frame cut behind every byte whose top bit is 0. The last piece may be cut off."""
+    cuts = {0, len(frame)} | {place + 1 for place, byte in enumerate(frame) if byte < 128}
+    cuts = sorted(cuts)
+    return [bytes(frame[start:end]) for start, end in zip(cuts, cuts[1:])]
+
+
+def number_of(piece, most):
+    """The number of which the piece is the shortest form, in at most so many bytes; None if there is none."""
+    value = sum(byte % 128 * 128 ** place for place, byte in enumerate(piece))
+    return value if len(piece) <= most and write_number(value) == piece else None
+
+
+# Job frames and the questions put to them.
+
+def numbers_of(frame):
+    """The numbers into which the frame divides; None if it does not."""
+    values = [number_of(piece, 2) for piece in pieces(frame)]
+    return None if None in values else values
+
+
+def job_of(frame):
+    """The job of a frame that passes questions 1 to 3."""
+    values = numbers_of(frame)
+    return Job(values[0], [Link(*values[2 + 4 * e:6 + 4 * e]) for e in range(values[1])])
+
+
+def job_frame(job):
+    return write_numbers([job.stations, len(job.links)] + [value for link in job.links for value in link])
+
+
+def refusal(frame):
+    """The number of the first question from 1 to 6 that gets a "no"; 0 if there is none."""
+    values = numbers_of(frame)
+    if values is None:
+        return 1
+    if len(values) < 2 or not 1 <= values[0] <= 64 or not 0 <= values[1] <= 256:
+        return 2
+    if len(values) != 2 + 4 * values[1]:
+        return 3
+    return job_refusal(job_of(frame))
+
+
+def list_refusal(job):
+    """The same for a job lent as a list of records."""
+    values = [job.stations, len(job.links)] + [value for link in job.links for value in link]
+    if max(values) > 16383:
+        return 1
+    if not 1 <= job.stations <= 64 or len(job.links) > 256:
+        return 2
+    return job_refusal(job)
+
+
+def job_refusal(job):
+    """Questions 4 to 6."""
+    if any(link.end1 >= job.stations or link.end2 >= job.stations or link.end1 == link.end2 for link in job.links):
+        return 4
+    if any(link.mark not in (0, 1) for link in job.links):
+        return 5
+    tree = tree_links(job)
+    return 0 if len(tree) == job.stations - 1 and joins_all(job, tree) else 6
+
+
+# Spanning trees and what is cheapest.
+
+def tree_links(job):
+    return [e for e, link in enumerate(job.links) if link.mark == 1]
+
+
+def spare_links(job):
+    return [e for e, link in enumerate(job.links) if link.mark == 0]
+
+
+def old_costs(job):
+    return [link.cost for link in job.links]
+
+
+def joins_all(job, chosen):
+    """Do the chosen links join every station to every other? Groups of stations are merged, link by link."""
+    groups = [{station} for station in range(job.stations)]
+    for e in chosen:
+        ends = {job.links[e].end1, job.links[e].end2}
+        met = [group for group in groups if group & ends]
+        groups = [group for group in groups if not group & ends] + [set().union(*met)]
+    return len(groups) == 1
+
+
+def spanning_trees(job):
+    return [tree for tree in combinations(range(len(job.links)), job.stations - 1) if joins_all(job, tree)]
+
+
+def total(costs, tree):
+    return sum(costs[e] for e in tree)
+
+
+def is_cheapest(job, costs, trees):
+    """Has none of the spanning trees a smaller total cost than the marked one?"""
+    marked = total(costs, tree_links(job))
+    return all(marked <= total(costs, tree) for tree in trees)
+
+
+def judge_tree(job):
+    return is_cheapest(job, old_costs(job), spanning_trees(job))
+
+
+# Choices of costs.
+
+def steps_of(job, costs):
+    return sum(abs(new - old) for new, old in zip(costs, old_costs(job)))
+
+
+def choices(old, steps):
+    """Every choice of whole-number costs that takes exactly so many steps."""
+    if not old:
+        if steps == 0:
+            yield ()
+        return
+    if len(old) == 1:
+        yield from [(cost,) for cost in sorted({old[0] - steps, old[0] + steps})]
+        return
+    for change in range(-steps, steps + 1):
+        for others in choices(old[1:], steps - abs(change)):
+            yield (old[0] + change,) + others
+
+
+def best_choices(job):
+    """The fewest steps of costs that make the tree cheapest, and all choices that take them."""
+    trees = spanning_trees(job)
+    for steps in count():
+        best = [costs for costs in choices(old_costs(job), steps) if is_cheapest(job, costs, trees)]
+        if best:
+            return steps, best
+
+
+def lowest_choice(job, best):
+    """The choice that gives every link at most what any other gives it."""
+    lowest = tuple(min(costs[e] for costs in best) for e in range(len(job.links)))
+    assert lowest in best, "no best choice is the lowest at every link"
+    assert all(min(old_costs(job)) <= cost <= max(old_costs(job)) for cost in lowest), "the lowest costs leave the range"
+    return lowest
+
+
+# Pairings.
+
+def path_links(job, here, goal, left):
+    """The links of a path from one station to another that takes links of `left`, none twice; None if there is none."""
+    if here == goal:
+        return []
+    for e in left:
+        ends = (job.links[e].end1, job.links[e].end2)
+        if here in ends:
+            rest = path_links(job, sum(ends) - here, goal, left - {e})
+            if rest is not None:
+                return [e] + rest
+    return None
+
+
+def pairs_of(job):
+    """All pairs: a tree link and a spare link that lies over it."""
+    tree = frozenset(tree_links(job))
+    over = {s: path_links(job, job.links[s].end1, job.links[s].end2, tree) for s in spare_links(job)}
+    return [(t, s) for t in sorted(tree) for s in spare_links(job) if t in over[s]]
+
+
+def pairings(pairs):
+    """Every list of some of the pairs, in their order, with no link in two of them."""
+    if not pairs:
+        yield ()
+        return
+    for rest in pairings(pairs[1:]):
+        yield rest
+        if not any(set(pairs[0]) & set(pair) for pair in rest):
+            yield (pairs[0],) + rest
+
+
+def weight(job, pairs):
+    return sum(job.links[t].cost - job.links[s].cost for t, s in pairs)
+
+
+def falls(job, pairs):
+    """Has every pair an old tree cost greater than its old spare cost?"""
+    return all(job.links[t].cost > job.links[s].cost for t, s in pairs)
+
+
+def best_pairings(job, steps):
+    """All pairings of the greatest weight that an answer may list."""
+    every = list(pairings(pairs_of(job)))
+    assert max(weight(job, pairs) for pairs in every) == steps, "the greatest weight is not the steps"
+    return [pairs for pairs in every if weight(job, pairs) == steps and falls(job, pairs)]
+
+
+def costs_follow(job, costs, pairs):
+    """Spare links cost at least their old cost, unpaired links keep theirs, paired links are equal."""
+    paired = {link for pair in pairs for link in pair}
+    unpaired = [e for e in range(len(job.links)) if e not in paired]
+    return (all(costs[s] >= job.links[s].cost for s in spare_links(job))
+            and all(costs[e] == job.links[e].cost for e in unpaired) and all(costs[t] == costs[s] for t, s in pairs))
+
+
+def solve(job):
+    steps, best = best_choices(job)
+    listed = best_pairings(job, steps)
+    lowest = lowest_choice(job, best)
+    assert listed, "no best pairing has only pairs that fall"
+    assert all(costs_follow(job, lowest, pairs) for pairs in listed), "the lowest costs do not follow from the pairing"
+    return Solution(steps, best, lowest, listed)
+
+
+# Answer frames.
+
+def answer_frame(answer):
+    links = [link for pair in answer.pairs for link in pair]
+    return write_numbers([answer.steps, *answer.costs, len(answer.pairs), *links])
+
+
+def unchanged(job):
+    """The answer frame that keeps all old costs."""
+    return answer_frame(Answer(0, old_costs(job), ()))
+
+
+def right_answers(solution):
+    """The answer frames that may be written for the job: they differ in the pairing listed."""
+    return [answer_frame(Answer(solution.steps, solution.lowest, pairs)) for pairs in solution.pairings]
+
+
+def read_answer(job, frame):
+    """What the frame holds; None if it is not laid out as an answer to the job."""
+    values = [number_of(piece, 2 if place else 3) for place, piece in enumerate(pieces(frame))]
+    links = len(job.links)
+    if None in values or len(values) < links + 2 or len(values) != links + 2 + 2 * values[links + 1]:
+        return None
+    ends = values[links + 2:]
+    return Answer(values[0], values[1:links + 1], list(zip(ends[::2], ends[1::2])))
+
+
+def pairing_holds(job, pairs):
+    """Pairs by the terms, no link twice, rising by tree link, each with an old tree cost greater than its spare's."""
+    links = [link for pair in pairs for link in pair]
+    trees = [t for t, s in pairs]
+    if any(pair not in pairs_of(job) for pair in pairs) or len(set(links)) < len(links):
+        return False
+    return trees == sorted(trees) and falls(job, pairs)
+
+
+def judge_answer(job, frame):
+    answer = read_answer(job, frame)
+    if answer is None or answer.steps != steps_of(job, answer.costs):
+        return False
+    if not is_cheapest(job, answer.costs, spanning_trees(job)):
+        return False
+    return pairing_holds(job, answer.pairs) and weight(job, answer.pairs) == answer.steps
+
+
+# The two finders.
+
+def link_part(frame, e):
+    if refusal(frame) or e >= len(job_of(frame).links):
+        return b""
+    return b"".join(pieces(frame)[2 + 4 * e:6 + 4 * e])
+
+
+def cost_part(frame, answer, e):
+    if refusal(frame) or e >= len(job_of(frame).links) or not judge_answer(job_of(frame), answer):
+        return b""
+    return pieces(answer)[1 + e]
+
+
+# Random jobs, damaged frames and answers made elsewhere.
+
+def random_tree(rng, stations):
+    """The ends of the links of a random tree: each station but the first is joined to an earlier one."""
+    names = rng.sample(range(stations), stations)
+    return [rng.sample([names[i], names[rng.randrange(i)]], 2) for i in range(1, stations)]
+
+
+def random_job(rng, stations, links, top):
+    """A job of at most so many stations and links, with ties; some costs stand where a number gets its second byte."""
+    stations = rng.randint(2, stations)
+    spares = max(rng.randint(0, links + 1 - stations) for _ in range(2))
+    base = rng.choice([0, 0, 0, 126, 16383 - top])
+    tree = [Link(a, b, base + rng.randint(0, top), 1) for a, b in random_tree(rng, stations)]
+    ends = [rng.sample(range(stations), 2) for _ in range(spares)]
+    spare = [Link(a, b, base + rng.randint(0, rng.choice([1, top])), 0) for a, b in ends]
+    return Job(stations, rng.sample(tree + spare, len(tree + spare)))
+
+
+def small_job(rng):
+    return random_job(rng, 4, 6, rng.choice([1, 2, 4]))
+
+
+def larger_job(rng):
+    return random_job(rng, 5, 8, rng.choice([2, 3]))
+
+
+def chain_job(size):
+    """A path of tree links and as many spares. If the first tree links are paired in order, each with its first spare,
+    the last one can be paired only by a chain through all the others."""
+    tree = [Link(i + 1, i + 2, 1, 1) for i in range(size - 1)] + [Link(0, 1, 1, 1)]
+    spare = [Link(i, i + 2, 0, 0) for i in range(size - 1)] + [Link(size - 1, size, 0, 0)]
+    return Job(size + 1, tree + spare)
+
+
+def different(make, wanted):
+    """So many different things that `make` makes."""
+    made = []
+    while len(made) < wanted:
+        one = make()
+        if one not in made:
+            made.append(one)
+    return made
+
+
+def damaged(rng, frame):
+    """The frame with one byte changed, put in or taken out, or cut off."""
+    place = rng.randrange(len(frame))
+    byte = bytes([rng.choice([0, 1, 2, 3, 4, 64, 65, 127, 128, 129, 255, rng.randrange(256)])])
+    kind = rng.randrange(5)
+    if kind == 0:
+        return frame[:place] + frame[place + 1:]
+    if kind == 1:
+        return frame[:place] + byte + frame[place:]
+    if kind == 2:
+        return frame[:place]
+    return frame[:place] + byte + frame[place + 1:]
+
+
+def wrong_links(rng, job):
+    """The job's frame with one link's ends or mark, the marks of two links, or the station count made wrong."""
+    links = list(job.links)
+    e, other = rng.randrange(len(links)), rng.randrange(len(links))
+    kind = rng.randrange(6)
+    if kind == 0:
+        links[e] = links[e]._replace(end1=links[e].end2)
+    if kind == 1:
+        links[e] = links[e]._replace(**{rng.choice(["end1", "end2"]): job.stations + rng.randrange(2)})
+    if kind == 2:
+        links[e] = links[e]._replace(mark=rng.choice([2, 3, 129]))
+    if kind == 3:
+        links[e] = links[e]._replace(mark=1 - links[e].mark)
+    if kind == 4:
+        links[e] = links[e]._replace(mark=job.links[other].mark)
+        links[other] = links[other]._replace(mark=job.links[e].mark)
+    return job_frame(Job(job.stations + (kind == 5), links))
+
+
+def refused_frames(rng, wanted):
+    """Different frames that questions 1 to 6 refuse, about as many for each number."""
+    frames = {number: [] for number in range(1, 7)}
+    while sum(len(some) for some in frames.values()) < wanted:
+        job = small_job(rng)
+        frame = wrong_links(rng, job) if rng.random() < 0.5 else damaged(rng, job_frame(job))
+        number = refusal(frame)
+        if number and frame not in frames[number] and len(frames[number]) <= wanted // 6:
+            frames[number].append(frame)
+    return [frame for some in frames.values() for frame in some]
+
+
+def made_elsewhere(rng, job, solution):
+    """Answer frames for the job, right and wrong ones: a frame and what it is, each frame once."""
+    pairs = rng.choice(solution.pairings)
+    right = Answer(solution.steps, solution.lowest, pairs)
+    made = [("right", right), *best_answers(rng, job, solution, pairs)]
+    made += [*other_costs(rng, job, right), *other_pairs(rng, job, right)]
+    frames = [(answer_frame(answer), about) for about, answer in made]
+    return dict(damaged_answers(rng, right) + frames[::-1])
+
+
+def best_answers(rng, job, solution, pairs):
+    """Some best choices, where they can be written: these are right. And costs of as many steps that are not best."""
+    every = list(choices(old_costs(job), solution.steps)) if solution.steps <= 4 else solution.best
+    writable = [costs for costs in every if all(0 <= cost <= 16383 for cost in costs)]
+    best = [costs for costs in writable if costs in solution.best]
+    others = [costs for costs in writable if costs not in solution.best]
+    made = [("best costs", costs) for costs in rng.sample(best, min(2, len(best)))]
+    made += [("costs not cheapest", costs) for costs in rng.sample(others, min(2, len(others)))]
+    return [(about, Answer(solution.steps, costs, pairs)) for about, costs in made]
+
+
+def other_costs(rng, job, right):
+    """Steps and costs that do not belong together, or are not the fewest."""
+    old = old_costs(job)
+    level = [max(old) for _ in old]
+    near = [max(0, min(16383, cost + rng.randint(-1, 1))) for cost in old]
+    yield "steps one too many", right._replace(steps=right.steps + 1)
+    yield "old costs, no pairs", Answer(0, old, ())
+    yield "all costs the largest", right._replace(steps=steps_of(job, level), costs=level)
+    yield "all costs the largest, fewest steps", right._replace(costs=level)
+    yield "random costs", right._replace(steps=steps_of(job, near), costs=near)
+
+
+def other_pairs(rng, job, right):
+    """Pairs that are no pairing, do not rise, do not fall or weigh too little."""
+    links = len(job.links)
+    equal = [p for p in pairings(pairs_of(job)) if weight(job, p) == right.steps and not falls(job, p)]
+    near = near_pairings(job, right.steps)
+    yield "no pairs", right._replace(pairs=())
+    yield "pairs the other way round", right._replace(pairs=right.pairs[::-1])
+    yield "the pairs twice", right._replace(pairs=right.pairs + right.pairs)
+    yield "spare link first", right._replace(pairs=[(s, t) for t, s in right.pairs])
+    yield "a pair past the links", right._replace(pairs=[*right.pairs, (links, links + 1)])
+    yield "random pairing", right._replace(pairs=rng.choice(list(pairings(pairs_of(job)))))
+    yield from [("a pair of equal costs", right._replace(pairs=p)) for p in rng.sample(equal, min(1, len(equal)))]
+    yield from [("no pairing", right._replace(pairs=p)) for p in rng.sample(near, min(2, len(near)))]
+
+
+def near_pairings(job, steps):
+    """Lists that rise, fall and weigh the steps, but hold a spare twice or one that does not lie over its tree link."""
+    tree = tree_links(job)
+    mates = product([None, *spare_links(job)], repeat=len(tree))
+    lists = [[(t, s) for t, s in zip(tree, some) if s is not None] for some in mates]
+    return [p for p in lists if weight(job, p) == steps and falls(job, p) and not pairing_holds(job, p)]
+
+
+def damaged_answers(rng, right):
+    """Frames whose layout is wrong, or may be."""
+    frame = answer_frame(right)
+    links = [link for pair in right.pairs for link in pair]
+    counts = {len(right.pairs) + 1, abs(len(right.pairs) - 1)}
+    made = [(write_numbers([right.steps, *right.costs, wrong, *links]), "wrong pair count") for wrong in counts]
+    made += [(b"", "nothing"), (frame[:-1], "the last byte missing"), (frame + b"\0", "a byte behind")]
+    made += [(bytes([frame[0] | 128, 0]) + frame[1:], "steps not shortest")]
+    return made + [(damaged(rng, frame), "damaged") for _ in range(3)]
+
+
+def main():
+    wanted = int(sys.argv[1]) if len(sys.argv) > 1 else 100
+    rng = random.Random(1)
+    jobs = different(lambda: small_job(rng), wanted) + different(lambda: larger_job(rng), wanted // 4)
+    solutions = [solve(job) for job in jobs]
+    for job, solution in zip(jobs, solutions):
+        assert job_of(job_frame(job)) == job and refusal(job_frame(job)) == 0
+        assert judge_tree(job) == (solution.steps == 0)
+        assert all(judge_answer(job, frame) for frame in right_answers(solution))
+    print(len(jobs), "jobs solved; steps and how often:", dict(sorted(Counter(s.steps for s in solutions).items())))
+
+
+if __name__ == "__main__":
+    main()

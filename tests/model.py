@@ -1,0 +1,413 @@
+"""Runs the antt model (crates/*/specs) on jobs and holds every result to the brute-force reference.
+
+Run: python3 tests/model.py [COUNT]    COUNT random jobs (default 80), 3 refused frames for every 4 of them, and the rows
+of document 01. About a minute. `rt` must be on the PATH. Nothing in this repository is changed.
+
+It copies crates/ and crates.txt into a temporary directory and adds a crate `probe`. Its specs state, a fact a result and
+each by `refl`, that the model computes what the reference found; `rt dev probe` checks them. Then one fact is stated
+wrongly, and rt must refuse it. It prints figures and OK, or every fact that failed with its job's bytes.
+"""
+import random
+import re
+import shutil
+import subprocess
+import sys
+import tempfile
+from collections import Counter, namedtuple
+from pathlib import Path
+
+sys.dont_write_bytecode = True
+
+import brute_force as reference
+from brute_force import Answer, Job, Link, Solution
+
+ROOT = Path(__file__).resolve().parent.parent
+STANDS_ON = "frame optimum graph loops leb128"
+FACTS_A_FILE = 400
+
+# The modules that hold the model: what is `unfoldable` in them is unfolded in every fact.
+MODEL = {
+    "loops": ["Loop"],
+    "leb128": ["Number"],
+    "graph": ["Rank", "Paths"],
+    "optimum": ["Search", "Lowest", "Solve"],
+    "frame": ["Questions", "Answers"],
+}
+LIBRARY = ["mathlib.Core.List.flatMap", "mathlib.Core.Bool.xor"]
+
+HEADER = """-- What the model computes. Assumes nothing.
+use Prim.Native.Nat.{ℕ}
+use mathlib.Core.Path.{_≡_, refl}
+use mathlib.Core.Bool.{Bool, true, false, _&&_, _||_}
+use mathlib.Core.List.{List, [], _∷_}
+use mathlib.Core.Option.{Option·getD}
+use lib.Dec.{eqb}
+use lib.ListN.{length}
+use Rattle.optimum.specs.Optimum.{Answer}
+use Rattle.frame.specs.Job.{Edge, Job, jobFrame}
+use Rattle.frame.specs.Questions.{refusal, jobOf}
+use Rattle.frame.specs.Answers.{answerFrame, answerOf, judgeTree, judgeAnswer, readAnswer}
+use Rattle.frame.specs.Services.{Outcome, answered, listRefusal, linkPart, costPart, noAnswer}
+
+abbrev same : List ℕ → List ℕ → Bool
+same [] [] = true
+same [] (y ∷ ys) = false
+same (x ∷ xs) [] = false
+same (x ∷ xs) (y ∷ ys) = eqb x y && same xs ys
+
+abbrev among : List (List ℕ) → List ℕ → Bool
+among [] xs = false
+among (ys ∷ yss) xs = same ys xs || among yss xs
+"""
+
+# The rows T1 to T9, those that document 01 wants run, and some at the edge of a question: a job, and its answers or its
+# refusal.
+ROWS = {
+    "03 03 00 01 05 01 01 02 04 01 00 02 02 00": ["03 04 04 04 01 00 02"],
+    "01 00": ["00 00"],
+    "02 02 00 01 07 01 00 01 07 00": ["00 07 07 00"],
+    "02 02 00 01 07 01 00 01 06 00": ["01 06 06 01 00 01"],
+    "02 01 00 01 FF 7F 01": ["00 FF 7F 00"],
+    "80 00": 1,
+    "": 2,
+    "02 01 00 00 05 02": 4,
+    "40 00": 6,
+    "41 00": 2,
+    "00 00": 2,
+    "80": 1,
+    "FF FF 01": 1,
+    "01 01": 3,
+    "02 81 02": 2,
+    "02 81 02" + 257 * " 00 01 03 01": 2,
+    "02 80 02": 3,
+    "04 03 00 01 05 01 01 00 05 01 02 03 05 01": 6,
+    "03 03 00 01 05 01 01 02 05 01 02 00 05 01": 6,
+    "02 01 02 01 05 01": 4,
+    "02 01 00 02 05 01": 4,
+    "02 01 00 01 05 02": 5,
+    "01 00 00": 3,
+    "05": 2,
+    "03 04 00 01 09 01 01 02 08 01 00 02 01 00 00 02 03 00": [
+        "0D 03 03 03 03 02 00 02 01 03",
+        "0D 03 03 03 03 02 00 03 01 02",
+    ],
+}
+T1 = bytes.fromhex("03 03 00 01 05 01 01 02 04 01 00 02 02 00")
+T1_ANSWER = bytes.fromhex("03 04 04 04 01 00 02")
+T1_JUDGED = {"03 05 04 05 01 00 02": True, "04 03 03 03 01 00 02": False}
+
+# Jobs at the limits: 64 stations in a ring; 256 links; both, in a frame of 1,283 bytes.
+RING = Job(64, [Link(i, i + 1, 5 + i % 3, 1) for i in reversed(range(63))] + [Link(0, 63, 6, 0)])
+FULL = Job(2, 100 * [Link(0, 1, 6, 0)] + [Link(1, 0, 4, 1)] + 154 * [Link(0, 1, 5, 0)] + [Link(0, 1, 3, 0)])
+LONGEST = Job(64, [Link(i, i + 1, 16383, 1) for i in range(63)] + [Link(0, 1 + i % 63, 16383, 0) for i in range(193)])
+
+# Steps of three bytes: too many for the reference to try every choice, but the answer is plain.
+FAR = Job(3, [Link(0, 1, 16383, 1), Link(0, 1, 0, 0), Link(1, 2, 16383, 1), Link(1, 2, 0, 0)])
+FAR_SOLUTION = Solution(32766, [(0, 0, 0, 0)], (0, 0, 0, 0), [((0, 1), (2, 3))])
+
+# Jobs lent as lists: a number above 16,383 is refused first.
+LENT = [
+    Job(2, [Link(0, 1, 16383, 1)]), Job(2, [Link(0, 1, 16384, 1)]), Job(16384, [Link(0, 0, 5, 2)]),
+    Job(2, [Link(16384, 0, 5, 1)]), Job(2, [Link(0, 16384, 5, 1)]), Job(2, [Link(0, 0, 5, 16384)]),
+    Job(0, []), Job(1, []), Job(64, []), Job(65, []), Job(16383, []),
+    Job(2, [Link(0, 0, 5, 2)]), Job(2, [Link(0, 1, 5, 2)]), Job(2, [Link(0, 1, 5, 0)]), Job(2, 2 * [Link(0, 1, 5, 1)]),
+    Job(4, [Link(0, 1, 5, 1), Link(1, 0, 5, 1), Link(2, 3, 5, 1)]),
+    Job(2, 256 * [Link(0, 0, 5, 2)]), Job(2, 257 * [Link(0, 0, 5, 2)]),
+]
+
+# A fact: its name, its job's bytes, what it is about, the model's term and the reference's value.
+Fact = namedtuple("Fact", "name frame about term value")
+
+
+# antt text.
+
+def list_text(values):
+    return " ∷ ".join([*(str(value) for value in values), "[]"])
+
+
+def bytes_text(values):
+    return f"({list_text(values)})"
+
+
+def word(judged):
+    return "true" if judged else "false"
+
+
+def outcome_text(refused, length, area):
+    return f"record {{ refusal = {refused}; length = {length}; area = {list_text(area)} }}"
+
+
+def job_text(job):
+    names = ("end₁", "end₂", "cost", "mark")
+    links = ["record { " + "; ".join(f"{name} = {value}" for name, value in zip(names, link)) + " }" for link in job.links]
+    return f"record {{ nodes = {job.stations}; links = {list_text(links)} }}"
+
+
+def unfolded():
+    """The whole names of what every fact unfolds."""
+    names = list(LIBRARY)
+    for crate, modules in MODEL.items():
+        for module in modules:
+            text = (ROOT / "crates" / crate / "specs" / f"{module}.antt").read_text(encoding="utf-8")
+            names += [f"Rattle.{crate}.specs.{module}.{name}" for name in re.findall(r"^unfoldable pub (\S+) :", text, re.M)]
+    return " ".join(names)
+
+
+class Probe:
+    """Collects facts and figures. In its methods s and f are the bytes of a job and of an answer as antt text."""
+
+    def __init__(self, seed):
+        self.rng = random.Random(seed)
+        self.facts = []
+        self.refusals = Counter()
+        self.steps = Counter()
+        self.judged = Counter()
+
+    def state(self, frame, about, term, value):
+        self.facts.append(Fact(f"fact-{len(self.facts)}", frame, about, term, value))
+
+    def frame(self, frame):
+        """All facts about a job frame."""
+        number = self.refusal(frame)
+        if number:
+            self.refused(frame, number)
+        else:
+            self.accepted(frame)
+
+    def refusal(self, frame):
+        s = bytes_text(frame)
+        number = reference.refusal(frame)
+        self.refusals[number] += 1
+        self.state(frame, "refusal", f"refusal {s}", number)
+        if number not in (1, 2, 3):
+            self.state(frame, "refusal of the list", f"listRefusal (jobOf {s})", number)
+        return number
+
+    def refused(self, frame, number):
+        """Nothing is written and every part is empty, also for an answer with the costs of the refused job."""
+        s = bytes_text(frame)
+        area = [9, 8, 7]
+        answer = T1_ANSWER if number < 4 else reference.unchanged(reference.job_of(frame))
+        self.state(frame, "outcome", f"answered {s} {bytes_text(area)}", outcome_text(number, 0, area))
+        self.state(frame, "part of link 0", f"linkPart (refusal {s}) {s} 0", "[]")
+        self.state(frame, f"part of cost 0 in {answer.hex(' ')}", f"costPart {s} {bytes_text(answer)} 0", "[]")
+
+    def accepted(self, frame):
+        s = bytes_text(frame)
+        job = reference.job_of(frame)
+        solution = reference.solve(job)
+        self.state(frame, "judge of the tree", f"judgeTree (jobOf {s})", word(reference.judge_tree(job)))
+        self.state(frame, "read and written", f"jobFrame (jobOf {s})", list_text(frame))
+        self.link_parts(frame, job)
+        self.own_answer(frame, solution)
+        self.answers(frame, job, reference.made_elsewhere(self.rng, job, solution))
+
+    def link_parts(self, frame, job):
+        s = bytes_text(frame)
+        for e in range(len(job.links) + 1):
+            self.state(frame, f"part of link {e}", f"linkPart (refusal {s}) {s} {e}", list_text(reference.link_part(frame, e)))
+
+    def own_frame(self, frame, solution):
+        """The model's answer frame is one of those that may be written."""
+        right = list_text(bytes_text(answer) for answer in reference.right_answers(solution))
+        self.steps[solution.steps] += 1
+        self.state(frame, "answer frame", f"among ({right}) (answerFrame (answerOf (jobOf {bytes_text(frame)})))", "true")
+
+    def own_answer(self, frame, solution):
+        """The same, its steps, its costs and the judge's word about it; if no other may be written, the outcomes too."""
+        s = bytes_text(frame)
+        right = reference.right_answers(solution)
+        self.own_frame(frame, solution)
+        self.state(frame, "steps", f"answerOf (jobOf {s}) .steps", solution.steps)
+        self.state(frame, "costs", f"answerOf (jobOf {s}) .costs", list_text(solution.lowest))
+        self.state(frame, "judge of the own answer", f"judgeAnswer (jobOf {s}) (answerFrame (answerOf (jobOf {s})))", "true")
+        if len(right) == 1:
+            for length in (len(right[0]) - 1, len(right[0]), len(right[0]) + 2):
+                self.outcome(frame, right[0], [self.rng.randrange(256) for _ in range(length)])
+
+    def outcome(self, frame, answer, area):
+        """What the answer service leaves in an area: question 7, and the bytes past the answer."""
+        size = len(answer)
+        left = outcome_text(0, size, [*answer, *area[size:]]) if len(area) >= size else outcome_text(7, 0, area)
+        self.state(frame, f"outcome in {len(area)} bytes", f"answered {bytes_text(frame)} {bytes_text(area)}", left)
+
+    def answers(self, frame, job, made):
+        """The judge's word about answers, and the cost parts of some."""
+        for answer, about in made.items():
+            self.judge(frame, job, answer, about)
+            if about in ("right", "best costs", "steps one too many"):
+                self.cost_parts(frame, job, answer)
+
+    def judge(self, frame, job, answer, about):
+        s, f = bytes_text(frame), bytes_text(answer)
+        judged = reference.judge_answer(job, answer)
+        self.judged[judged] += 1
+        self.state(frame, f"judge of {answer.hex(' ')} ({about})", f"judgeAnswer (jobOf {s}) {f}", word(judged))
+        if judged:
+            read = f"Option·getD (readAnswer {len(job.links)} {f}) noAnswer"
+            self.state(frame, f"{answer.hex(' ')} read and written", f"answerFrame ({read})", list_text(answer))
+
+    def cost_parts(self, frame, job, answer):
+        for e in range(len(job.links) + 1):
+            part = reference.cost_part(frame, answer, e)
+            term = f"costPart {bytes_text(frame)} {bytes_text(answer)} {e}"
+            self.state(frame, f"part of cost {e} in {answer.hex(' ')}", term, list_text(part))
+
+    def lent(self, job):
+        number = reference.list_refusal(job)
+        self.state(reference.job_frame(job), "refusal of a lent list", f"listRefusal ({job_text(job)})", number)
+
+
+# What is run: the rows of the document, with which the reference must agree too, and then jobs at the limits.
+
+def document_rows(probe):
+    for row, result in ROWS.items():
+        frame = bytes.fromhex(row)
+        if isinstance(result, int):
+            assert reference.refusal(frame) == result, row
+        else:
+            right = reference.right_answers(reference.solve(reference.job_of(frame)))
+            assert sorted(right) == sorted(bytes.fromhex(answer) for answer in result), row
+        probe.frame(frame)
+    first_row(probe)
+
+
+def first_row(probe):
+    """T1: the two answers that the document judges, and areas of 6, 7 and 9 bytes, painted."""
+    job = reference.job_of(T1)
+    for answer, judged in T1_JUDGED.items():
+        assert reference.judge_answer(job, bytes.fromhex(answer)) == judged, answer
+        probe.judge(T1, job, bytes.fromhex(answer), "document 01")
+    for paint in (0, 170, 255):
+        for length in (6, 7, 9):
+            probe.outcome(T1, T1_ANSWER, length * [paint])
+
+
+def limit_jobs(probe):
+    for job in (RING, FULL):
+        frame = reference.job_frame(job)
+        assert probe.refusal(frame) == 0
+        probe.own_frame(frame, reference.solve(job))
+    assert len(reference.job_frame(LONGEST)) == 1283 and probe.refusal(reference.job_frame(LONGEST)) == 0
+    far_job(probe)
+    for job in LENT:
+        probe.lent(job)
+
+
+def far_job(probe):
+    frame = reference.job_frame(FAR)
+    right = reference.right_answers(FAR_SOLUTION)[0]
+    assert probe.refusal(frame) == 0 and reference.judge_answer(FAR, right)
+    probe.own_answer(frame, FAR_SOLUTION)
+    probe.answers(frame, FAR, {right: "right", **far_answers(right)})
+
+
+def far_answers(right):
+    """The right answer with steps one too few, steps of four bytes, or a cost of three."""
+    few = reference.answer_frame(Answer(FAR_SOLUTION.steps - 1, FAR_SOLUTION.lowest, FAR_SOLUTION.pairings[0]))
+    long_steps = right[:2] + bytes([right[2] | 128, 0]) + right[3:]
+    long_cost = right[:3] + bytes([128, 128, 1]) + right[4:]
+    return {few: "steps one too few", long_steps: "steps of four bytes", long_cost: "a cost of three bytes"}
+
+
+def chosen_jobs(rng, wanted):
+    """Jobs that need long chains, small random ones, and a larger one for every four of these."""
+    chains = [reference.chain_job(size) for size in (2, 3, 4, 5)]
+    small = reference.different(lambda: reference.small_job(rng), wanted - wanted // 5)
+    return chains + small + reference.different(lambda: reference.larger_job(rng), wanted // 5)
+
+
+def chosen_frames(probe, wanted):
+    """Those jobs, and refused frames."""
+    rng = probe.rng
+    for job in chosen_jobs(rng, wanted):
+        probe.frame(reference.job_frame(job))
+    for frame in reference.refused_frames(rng, wanted * 3 // 4):
+        probe.frame(frame)
+
+
+# The scratch repository.
+
+def write_repository(repo):
+    shutil.copytree(ROOT / "crates", repo / "crates")
+    listed = (ROOT / "crates.txt").read_text(encoding="utf-8").rstrip("\n")
+    (repo / "crates.txt").write_text(f"{listed}\nprobe: {STANDS_ON}\n", encoding="utf-8")
+
+
+def fact_text(fact, names):
+    return f"\n{fact.name} : {fact.term} ≡ {fact.value}\nunfolding {names}\n{fact.name} = refl\n"
+
+
+def write_probe(repo, facts):
+    """The crate `probe`: the facts in files of so many."""
+    crate = repo / "crates" / "probe"
+    shutil.rmtree(crate, ignore_errors=True)
+    (crate / "src").mkdir(parents=True)
+    (crate / "specs").mkdir()
+    (crate / "src" / "lib.rt").write_text("// Theory only: what the model computes stands in specs/.\n")
+    names = unfolded()
+    modules = range(0, len(facts), FACTS_A_FILE)
+    (crate / "specs" / "Lib.antt").write_text("-- Facts.\n" + "".join(f"pub mod Facts{start}\n" for start in modules))
+    for start in modules:
+        text = HEADER + "".join(fact_text(fact, names) for fact in facts[start:start + FACTS_A_FILE])
+        (crate / "specs" / f"Facts{start}.antt").write_text(text, encoding="utf-8")
+
+
+def check(repo, facts):
+    """Lets rt check the facts: whether all hold, and what it printed."""
+    write_probe(repo, facts)
+    run = subprocess.run(["rt", "dev", "probe"], cwd=repo, text=True, stdout=subprocess.PIPE, stderr=subprocess.STDOUT)
+    lines = run.stdout.splitlines() or [""]
+    return run.returncode == 0 and lines[-1].startswith("logic=proved"), run.stdout
+
+
+def failures(output, facts):
+    """The facts that rt refused, each with what rt says of it."""
+    by_name = {fact.name: fact for fact in facts}
+    found = re.findall(r"error: `(fact-\d+)`:(.*(?:\n  .*)*)", output)
+    return [(by_name[name], said) for name, said in found]
+
+
+def spoilt(facts):
+    """One of the facts, stated wrongly."""
+    fact = next(fact for fact in facts if fact.about == "judge of the tree")
+    return fact._replace(value="false" if fact.value == "true" else "true")
+
+
+def show_figures(probe):
+    refused = {number: times for number, times in sorted(probe.refusals.items()) if number}
+    print(f"accepted jobs: {probe.refusals[0]}, by steps {dict(sorted(probe.steps.items()))}")
+    print(f"refused frames: {sum(refused.values())}, by number {refused}")
+    print(f"lent lists: {len(LENT)}")
+    print(f"answers judged: {sum(probe.judged.values())}, yes {probe.judged[True]}, no {probe.judged[False]}")
+    print(f"facts compared: {len(probe.facts)}", flush=True)
+
+
+def show_failures(output, facts):
+    failed = failures(output, facts)
+    for fact, said in failed:
+        print(f"DISAGREEMENT: job {fact.frame.hex(' ')}\n  {fact.about}: the reference says {fact.value}\n  rt:{said}")
+    print(f"FAILED: {len(failed)} facts" if failed else output + "\nFAILED")
+
+
+def main():
+    probe = Probe(2)
+    document_rows(probe)
+    limit_jobs(probe)
+    chosen_frames(probe, int(sys.argv[1]) if len(sys.argv) > 1 else 80)
+    show_figures(probe)
+    with tempfile.TemporaryDirectory() as folder:
+        repo = Path(folder)
+        write_repository(repo)
+        hold, output = check(repo, probe.facts)
+        if not hold:
+            show_failures(output, probe.facts)
+            sys.exit(1)
+        wrong = [spoilt(probe.facts)]
+        hold, output = check(repo, wrong)
+        assert not hold and failures(output, wrong), "a fact stated wrongly was not refused"
+    print("OK")
+
+
+if __name__ == "__main__":
+    main()
