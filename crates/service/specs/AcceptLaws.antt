@@ -86,3 +86,16 @@ module _ (s : List ℕ) (h : Header) (e : h ≡ headerOf s) where
     tree-accepted y =
         let zero : refusal s ≡ 0 = passed-form s b formed-zero ∙ rw y in
         e ∙ ap (λ (r : ℕ). header r (jobOf s)) (formed-zero ∙ sym zero)
+
+-- What `accept` said, by its refusal.
+module _ (s : List ℕ) (h : Header) (e : h ≡ acceptedHeader s) where
+  pub accepted-number : refusal s ≡ h .refusal
+  accepted-number = header-kept (refusal s) (jobOf s) ∙ ap (λ (h : Header). h .refusal) (sym e)
+
+  pub accepted-nodes : h .refusal ≡ 0 → h .nodes ≡ jobOf s .nodes
+  unfolding header
+  accepted-nodes z = ap (λ (h : Header). h .nodes) (e ∙ ap (λ (r : ℕ). header r (jobOf s)) (accepted-number ∙ z))
+
+  pub accepted-edges : h .refusal ≡ 0 → h .edges ≡ length (jobOf s .links)
+  unfolding header
+  accepted-edges z = ap (λ (h : Header). h .edges) (e ∙ ap (λ (r : ℕ). header r (jobOf s)) (accepted-number ∙ z))

@@ -6,7 +6,7 @@ use lib.ListN.{length, getD, take}
 use Rattle.graph.specs.Rank.{treeRanks}
 use Rattle.frame.specs.Job.{Job, link, graphOf, treeOf, costOf}
 use Rattle.frame.specs.Questions.{jobOf, refusal}
-use Rattle.tree.specs.Arrays.{Walked}
+use Rattle.tree.specs.Arrays.{Ranked, Walked}
 use Rattle.job.specs.declared.read.Header.{Header}
 use Rattle.job.specs.Reading.{header}
 use Rattle.job.specs.Held.{zeros}
@@ -32,4 +32,5 @@ pub record Held (j : Job) (as₁ as₂ as₃ as₄ ts mask : List ℕ) : Type 0 
   pub places : length as₃ ≡ 256
   pub ranks : take (j .nodes - 1) ts ≡ treeRanks (graphOf j) (treeOf j) (costOf j)
   pub ranks-places : length ts ≡ 256
+  pub ranked : Ranked (j .nodes) (j .nodes - 1) ts as₁ as₂
   pub walked : Walked (j .nodes) (j .nodes - 1) ts as₁ as₂ (j .nodes) mask

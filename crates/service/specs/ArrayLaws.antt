@@ -127,5 +127,6 @@ module _ (s z₁ z₂ z₃ z₄ ts₀ as₁ as₂ as₃ as₄ : List ℕ) (b : B
             places = cost-places;
             ranks = ap (λ (c : ℕ). take c ts) (sym last) ∙ ts-are;
             ranks-places = places;
+            ranked = subst (λ (c : ℕ). Ranked (jobOf s .nodes) c ts as₁ as₂) last (subst (λ (n : ℕ). Ranked n count ts as₁ as₂) pn tree-ranked);
             walked = subst (λ (c : ℕ). Walked (jobOf s .nodes) c ts as₁ as₂ (jobOf s .nodes) mask) last (subst (λ (n : ℕ). Walked n count ts as₁ as₂ n mask) pn w)
           }

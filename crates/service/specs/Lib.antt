@@ -2,3 +2,5 @@
 pub mod Accepting
 pub mod AcceptLaws
 pub mod ArrayLaws
+pub mod Verdicts
+pub mod VerdictLaws

@@ -1,2 +1,3 @@
 // The public face: services on job and answer frames. None of them has a `requires`.
 pub mod accept;
+pub mod judge;

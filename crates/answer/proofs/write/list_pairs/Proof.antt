@@ -1,0 +1,99 @@
+-- `answer::write::list_pairs` meets its contract. The loop's invariant: the pairs of the mates passed are listed.
+-- Assumes nothing.
+use Prim.Native.Nat.{_-_, _<_, _≤_}
+use mathlib.Core.Path.{_≡_}
+use mathlib.Core.Logic.{⊎-elim}
+use native.Mathlib.Omega.{arith}
+use lib.ListN.{getD}
+use Rattle.answer.specs.Contents.{pairsOf, Listed}
+use Rattle.answer.specs.ContentsLaws.{listed-start, listed-none, listed-room, listed-one}
+use Rattle.answer.proofs.write.list_pairs.Statement.{statement}
+use Rattle.answer.proofs.write.list_pairs.Tie as tie
+
+abbrev Inv-loop : tie.InvT-loop
+Inv-loop edges mate pair-tree₀ pair-spare₀ count₀ e₀ pair-tree pair-spare count e = (e ≤ edges) × Listed (pairsOf e mate) count pair-tree pair-spare
+
+abbrev μ-loop : tie.MeasureT-loop
+μ-loop edges mate pair-tree₀ pair-spare₀ count₀ e₀ pair-tree pair-spare count e = edges - e
+
+-- there is a place for the pair at hand
+room :
+    (l : tie.At-loop Inv-loop μ-loop) →
+    l .loop .e < l .before .args .edges →
+    0 < getD (l .before .args .mate .now) (l .loop .e) 0 →
+    l .loop .count < 64
+room l b m = listed-room (l .before .args .mate .now) _ _ _ _ (l .loop .inv .1) _ (l .before .pre .1 .0) b m
+
+loop-holds : tie.Need-loop-holds Inv-loop μ-loop
+loop-holds c = (omega arith, listed-start (c .args .mate .now) _ _ (c .pre .1 .1 .0) (c .pre .1 .1 .1))
+
+mul-m : tie.Need-mul-m Inv-loop μ-loop
+mul-m c = omega arith
+
+element-copy-out-m : tie.Need-element-copy-out-m Inv-loop μ-loop
+element-copy-out-m c = omega arith
+
+cast-pair-tree : tie.Need-cast-pair-tree Inv-loop μ-loop
+cast-pair-tree c = omega arith
+
+mul-pair-tree : tie.Need-mul-pair-tree Inv-loop μ-loop
+mul-pair-tree c = omega (arith, room (c .before .before .before) (c .before .before .loop-test .taken) (c .if1 .taken))
+
+element-write-pair-tree : tie.Need-element-write-pair-tree Inv-loop μ-loop
+element-write-pair-tree c = omega (arith, room (c .before .before .before) (c .before .before .loop-test .taken) (c .if1 .taken))
+
+sub-pair-spare : tie.Need-sub-pair-spare Inv-loop μ-loop
+sub-pair-spare c = omega arith
+
+mul-pair-spare : tie.Need-mul-pair-spare Inv-loop μ-loop
+mul-pair-spare c = omega (arith, room (c .before .before .before) (c .before .before .loop-test .taken) (c .if1 .taken))
+
+element-write-pair-spare : tie.Need-element-write-pair-spare Inv-loop μ-loop
+element-write-pair-spare c = omega (arith, room (c .before .before .before) (c .before .before .loop-test .taken) (c .if1 .taken))
+
+add-count : tie.Need-add-count Inv-loop μ-loop
+add-count c = omega (arith, room (c .before .before .before) (c .before .before .loop-test .taken) (c .if1 .taken))
+
+add-e : tie.Need-add-e Inv-loop μ-loop
+add-e c = omega arith
+
+loop-less : tie.Need-loop-less Inv-loop μ-loop
+loop-less c = omega arith
+
+loop-again : tie.Need-loop-again Inv-loop μ-loop
+loop-again c =
+    let l = c .before .before .before in
+    let mate = l .before .args .mate .now in (
+      omega arith,
+      ⊎-elim
+          (λ w. rw (w .1, w .2, w .3) (listed-one mate _ _ _ _ (l .loop .inv .1) (w .0 .taken) (room l (c .before .before .loop-test .taken) (w .0 .taken))))
+          (λ w. rw (w .1, w .2, w .3) (listed-none mate _ _ _ _ (l .loop .inv .1) (w .0 .left)))
+          (c .if1 .came),
+    )
+
+returns : tie.Need-returns Inv-loop μ-loop
+returns c =
+    let l = c .before in
+    let all : l .loop .e ≡ l .before .args .edges = omega arith in
+    rw all at (l .loop .inv .1)
+
+pub list-pairs-spec : {M : Type 1} → statement M
+list-pairs-spec =
+    tie.close
+    (tie.spec
+    Inv-loop
+    μ-loop
+    loop-holds
+    mul-m
+    element-copy-out-m
+    cast-pair-tree
+    mul-pair-tree
+    element-write-pair-tree
+    sub-pair-spare
+    mul-pair-spare
+    element-write-pair-spare
+    add-count
+    add-e
+    loop-less
+    loop-again
+    returns)

@@ -1,0 +1,31 @@
+-- What the judges say. Definitions only. Assumes nothing.
+use Prim.Native.Nat.{ℕ}
+use mathlib.Core.Path.{_≡_}
+use mathlib.Core.Logic.{_↔_, _≢_}
+use mathlib.Core.Bool.{Bool, true, false, cond}
+use mathlib.Core.List.{List}
+use lib.IntN.{pos}
+use Rattle.graph.specs.Graph.{Minimum}
+use Rattle.frame.specs.Job.{Job, graphOf, treeOf, costOf}
+use Rattle.frame.specs.Questions.{jobOf, refusal}
+use Rattle.frame.specs.Answers.{judgeTree}
+use Rattle.frame.specs.Meaning.{FirstNo}
+use Rattle.service.specs.declared.judge.Verdict.{Verdict}
+use Rattle.service.specs.declared.judge.Verdict.the-variants.{Yes, No, Refused}
+
+-- A verdict: the refusal, where there is one; else the judge's word.
+abbrev pub verdict : ℕ → Bool → Verdict
+verdict ℕ.zero word = cond word Yes No
+verdict (ℕ.suc r) word = Refused (ℕ.suc r)
+
+-- The marked tree of a job is cheapest: no spanning tree of its links has a smaller total cost.
+abbrev pub Cheapest : Job → Type 0
+Cheapest j = Minimum (graphOf j) (treeOf j) (λ e. pos (costOf j e))
+
+-- The verdict r on the frame s: a refusal is the first "no" of the six questions; of an accepted job the word is yes
+-- exactly if the marked tree is cheapest, and no exactly if it is not.
+pub record TreeJudged (s : List ℕ) (r : Verdict) : Type 0 where
+  pub said : r ≡ verdict (refusal s) (judgeTree (jobOf s))
+  pub first : FirstNo s (refusal s)
+  pub yes-means : (r ≡ Yes) ↔ ((refusal s ≡ 0) × Cheapest (jobOf s))
+  pub no-means : (r ≡ No) ↔ ((refusal s ≡ 0) × (Cheapest (jobOf s) → ⊥))
