@@ -4,3 +4,5 @@ pub mod AcceptLaws
 pub mod ArrayLaws
 pub mod Verdicts
 pub mod VerdictLaws
+pub mod Parts
+pub mod PartLaws

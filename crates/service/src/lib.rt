@@ -1,3 +1,4 @@
 // The public face: services on job and answer frames. None of them has a `requires`.
 pub mod accept;
 pub mod judge;
+pub mod find;
