@@ -6,3 +6,5 @@ pub mod Verdicts
 pub mod VerdictLaws
 pub mod Parts
 pub mod PartLaws
+pub mod Lists
+pub mod ListLaws

@@ -2,3 +2,4 @@
 pub mod accept;
 pub mod judge;
 pub mod find;
+pub mod write;

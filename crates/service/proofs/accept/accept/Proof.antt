@@ -9,7 +9,7 @@ use Rattle.job.specs.declared.read.Header.{Header}
 use Rattle.job.specs.Reading.{arrays, filled}
 use Rattle.service.specs.Accepting.{Empty}
 use Rattle.service.specs.AcceptLaws.{form-number, accept-refused, header-nodes, header-edges, few-edges, tree-refused, tree-accepted}
-use Rattle.service.specs.ArrayLaws.{empty-places, count-few, count-wrong, tree-ranked, tree-answer, tree-held}
+use Rattle.service.specs.ArrayLaws.{Stored, stored, empty-places, count-few, count-wrong, tree-ranked, tree-answer, tree-held}
 use borrow.Author.Needs.{needs}
 use Rattle.service.proofs.accept.accept.Statement.{statement}
 use Rattle.service.proofs.accept.accept.Tie as tie
@@ -39,6 +39,15 @@ full :
     let l = k .before .read-job .last .1 in
     arrays 0 (l .0) (l .1 .0) (l .1 .1 .0) (l .1 .1 .1 .0) ≡ filled (jobOf (a .frame .now) .links) 0 0 (arrays 0 (a .end1 .now) (a .end2 .now) (a .cost .now) (a .mark .now))
 full k = k .before .read-job .ensures .1 (k .if1 .left)
+
+kept :
+    (k : tie.Else1) →
+    let l = k .before .read-job .last .1 in
+    Stored (jobOf (k .before .before .before .before .before .before .before .args .frame .now)) (l .0) (l .1 .0) (l .1 .1 .0) (l .1 .1 .1 .0)
+kept k =
+    let a = k .before .before .before .before .before .before .before .args in
+    let l = k .before .read-job .last .1 in
+    stored (a .frame .now) (a .end1 .now) (a .end2 .now) (a .cost .now) (a .mark .now) (a .ts .now) (l .0) (l .1 .0) (l .1 .1 .0) (l .1 .1 .1 .0) (bytes k) (good k) (start k) (full k)
 
 -- src/accept.rt:33:9
 read-job-requires : tie.Need-read-job-requires
@@ -72,7 +81,7 @@ add-if2 c =
     let r = k .before in
     let a = r .before .before .before .before .before .before .args in
     let l = r .read-job .last .1 in
-    omega (arith, count-few (a .frame .now) (a .end1 .now) (a .end2 .now) (a .cost .now) (a .mark .now) (a .ts .now) (l .0) (l .1 .0) (l .1 .1 .0) (l .1 .1 .1 .0) (bytes k) (good k) (start k) (full k) (r .read-job .result .nodes) (r .read-job .result .edges) (t .tree-ranks .result) (t .tree-ranks .last .1 .1 .1 .0) (header-nodes (a .frame .now) (r .read-job .result) (r .read-job .ensures .0) (bytes k) (k .if1 .left)) (header-edges (a .frame .now) (r .read-job .result) (r .read-job .ensures .0) (bytes k) (k .if1 .left)) (t .tree-ranks .ensures .0) (t .tree-ranks .ensures .1 .0) (t .tree-ranks .ensures .1 .1))
+    omega (arith, count-few (jobOf (a .frame .now)) (l .0) (l .1 .0) (l .1 .1 .0) (l .1 .1 .1 .0) (kept k) (r .read-job .result .nodes) (r .read-job .result .edges) (t .tree-ranks .result) (t .tree-ranks .last .1 .1 .1 .0) (header-nodes (a .frame .now) (r .read-job .result) (r .read-job .ensures .0) (bytes k) (k .if1 .left)) (header-edges (a .frame .now) (r .read-job .result) (r .read-job .ensures .0) (bytes k) (k .if1 .left)) (t .tree-ranks .ensures .0) (t .tree-ranks .ensures .1 .0) (t .tree-ranks .ensures .1 .1))
 
 -- src/accept.rt:41:21
 cast-if2 : tie.Need-cast-if2
@@ -90,7 +99,7 @@ returns-2 c =
     let r = k .before in
     let a = r .before .before .before .before .before .before .args in
     let l = r .read-job .last .1 in
-    (c .refused6 .ensures ∙ tree-refused (a .frame .now) (r .read-job .result) (r .read-job .ensures .0) (bytes k) (k .if1 .left) (count-wrong (a .frame .now) (a .end1 .now) (a .end2 .now) (a .cost .now) (a .mark .now) (a .ts .now) (l .0) (l .1 .0) (l .1 .1 .0) (l .1 .1 .1 .0) (bytes k) (good k) (start k) (full k) (r .read-job .result .nodes) (r .read-job .result .edges) (t .tree-ranks .result) (t .tree-ranks .last .1 .1 .1 .0) (header-nodes (a .frame .now) (r .read-job .result) (r .read-job .ensures .0) (bytes k) (k .if1 .left)) (header-edges (a .frame .now) (r .read-job .result) (r .read-job .ensures .0) (bytes k) (k .if1 .left)) (t .tree-ranks .ensures .0) (t .tree-ranks .ensures .1 .0) (t .tree-ranks .ensures .1 .1) (c .before .if2 .taken)), λ z. absurd (six-nonzero (c .refused6 .result) (c .refused6 .ensures) z))
+    (c .refused6 .ensures ∙ tree-refused (a .frame .now) (r .read-job .result) (r .read-job .ensures .0) (bytes k) (k .if1 .left) (count-wrong (jobOf (a .frame .now)) (l .0) (l .1 .0) (l .1 .1 .0) (l .1 .1 .1 .0) (kept k) (r .read-job .result .nodes) (r .read-job .result .edges) (t .tree-ranks .result) (t .tree-ranks .last .1 .1 .1 .0) (header-nodes (a .frame .now) (r .read-job .result) (r .read-job .ensures .0) (bytes k) (k .if1 .left)) (header-edges (a .frame .now) (r .read-job .result) (r .read-job .ensures .0) (bytes k) (k .if1 .left)) (t .tree-ranks .ensures .0) (t .tree-ranks .ensures .1 .0) (t .tree-ranks .ensures .1 .1) (c .before .if2 .taken)), λ z. absurd (six-nonzero (c .refused6 .result) (c .refused6 .ensures) z))
 
 -- src/accept.rt:44:9
 question6-requires : tie.Need-question6-requires
@@ -100,7 +109,7 @@ question6-requires c κs =
     let r = k .before in
     let a = r .before .before .before .before .before .before .args in
     let l = r .read-job .last .1 in
-    tree-ranked (a .frame .now) (a .end1 .now) (a .end2 .now) (a .cost .now) (a .mark .now) (a .ts .now) (l .0) (l .1 .0) (l .1 .1 .0) (l .1 .1 .1 .0) (bytes k) (good k) (start k) (full k) (r .read-job .result .nodes) (r .read-job .result .edges) (t .tree-ranks .result) (t .tree-ranks .last .1 .1 .1 .0) (header-nodes (a .frame .now) (r .read-job .result) (r .read-job .ensures .0) (bytes k) (k .if1 .left)) (header-edges (a .frame .now) (r .read-job .result) (r .read-job .ensures .0) (bytes k) (k .if1 .left)) (t .tree-ranks .ensures .0) (t .tree-ranks .ensures .1 .0) (t .tree-ranks .ensures .1 .1) (c .before .before .before .before .if2 .left)
+    tree-ranked (jobOf (a .frame .now)) (l .0) (l .1 .0) (l .1 .1 .0) (l .1 .1 .1 .0) (kept k) (r .read-job .result .nodes) (r .read-job .result .edges) (t .tree-ranks .result) (t .tree-ranks .last .1 .1 .1 .0) (header-nodes (a .frame .now) (r .read-job .result) (r .read-job .ensures .0) (bytes k) (k .if1 .left)) (header-edges (a .frame .now) (r .read-job .result) (r .read-job .ensures .0) (bytes k) (k .if1 .left)) (t .tree-ranks .ensures .0) (t .tree-ranks .ensures .1 .0) (t .tree-ranks .ensures .1 .1) (c .before .before .before .before .if2 .left)
 
 -- src/accept.rt:45:9
 refused6-requires-2 : tie.Need-refused6-requires-2
@@ -115,7 +124,7 @@ returns-3 c =
     let r = k .before in
     let a = r .before .before .before .before .before .before .args in
     let l = r .read-job .last .1 in
-    (c .refused62 .ensures ∙ tree-refused (a .frame .now) (r .read-job .result) (r .read-job .ensures .0) (bytes k) (k .if1 .left) (sym (tree-answer (a .frame .now) (a .end1 .now) (a .end2 .now) (a .cost .now) (a .mark .now) (a .ts .now) (l .0) (l .1 .0) (l .1 .1 .0) (l .1 .1 .1 .0) (bytes k) (good k) (start k) (full k) (r .read-job .result .nodes) (r .read-job .result .edges) (t .tree-ranks .result) (t .tree-ranks .last .1 .1 .1 .0) (header-nodes (a .frame .now) (r .read-job .result) (r .read-job .ensures .0) (bytes k) (k .if1 .left)) (header-edges (a .frame .now) (r .read-job .result) (r .read-job .ensures .0) (bytes k) (k .if1 .left)) (t .tree-ranks .ensures .0) (t .tree-ranks .ensures .1 .0) (t .tree-ranks .ensures .1 .1) (q .before .before .before .before .before .if2 .left) (q .question6 .result) (q .question6 .ensures .0)) ∙ not-true _ (c .before .if3 .taken)), λ z. absurd (six-nonzero (c .refused62 .result) (c .refused62 .ensures) z))
+    (c .refused62 .ensures ∙ tree-refused (a .frame .now) (r .read-job .result) (r .read-job .ensures .0) (bytes k) (k .if1 .left) (sym (tree-answer (jobOf (a .frame .now)) (l .0) (l .1 .0) (l .1 .1 .0) (l .1 .1 .1 .0) (kept k) (r .read-job .result .nodes) (r .read-job .result .edges) (t .tree-ranks .result) (t .tree-ranks .last .1 .1 .1 .0) (header-nodes (a .frame .now) (r .read-job .result) (r .read-job .ensures .0) (bytes k) (k .if1 .left)) (header-edges (a .frame .now) (r .read-job .result) (r .read-job .ensures .0) (bytes k) (k .if1 .left)) (t .tree-ranks .ensures .0) (t .tree-ranks .ensures .1 .0) (t .tree-ranks .ensures .1 .1) (q .before .before .before .before .before .if2 .left) (q .question6 .result) (q .question6 .ensures .0)) ∙ not-true _ (c .before .if3 .taken)), λ z. absurd (six-nonzero (c .refused62 .result) (c .refused62 .ensures) z))
 
 -- src/accept.rt:18:1
 returns-4 : tie.Need-returns-4
@@ -127,7 +136,7 @@ returns-4 c =
     let a = r .before .before .before .before .before .before .args in
     let l = r .read-job .last .1 in
     let yes = not-false _ (c .if3 .left) in
-    (tree-accepted (a .frame .now) (r .read-job .result) (r .read-job .ensures .0) (bytes k) (k .if1 .left) (sym (tree-answer (a .frame .now) (a .end1 .now) (a .end2 .now) (a .cost .now) (a .mark .now) (a .ts .now) (l .0) (l .1 .0) (l .1 .1 .0) (l .1 .1 .1 .0) (bytes k) (good k) (start k) (full k) (r .read-job .result .nodes) (r .read-job .result .edges) (t .tree-ranks .result) (t .tree-ranks .last .1 .1 .1 .0) (header-nodes (a .frame .now) (r .read-job .result) (r .read-job .ensures .0) (bytes k) (k .if1 .left)) (header-edges (a .frame .now) (r .read-job .result) (r .read-job .ensures .0) (bytes k) (k .if1 .left)) (t .tree-ranks .ensures .0) (t .tree-ranks .ensures .1 .0) (t .tree-ranks .ensures .1 .1) (q .before .before .before .before .before .if2 .left) (q .question6 .result) (q .question6 .ensures .0)) ∙ yes), λ z. tree-held (a .frame .now) (a .end1 .now) (a .end2 .now) (a .cost .now) (a .mark .now) (a .ts .now) (l .0) (l .1 .0) (l .1 .1 .0) (l .1 .1 .1 .0) (bytes k) (good k) (start k) (full k) (r .read-job .result .nodes) (r .read-job .result .edges) (t .tree-ranks .result) (t .tree-ranks .last .1 .1 .1 .0) (header-nodes (a .frame .now) (r .read-job .result) (r .read-job .ensures .0) (bytes k) (k .if1 .left)) (header-edges (a .frame .now) (r .read-job .result) (r .read-job .ensures .0) (bytes k) (k .if1 .left)) (t .tree-ranks .ensures .0) (t .tree-ranks .ensures .1 .0) (t .tree-ranks .ensures .1 .1) (q .before .before .before .before .before .if2 .left) (q .question6 .last .1 .1 .1 .1 .1 .0) (q .question6 .ensures .1 yes))
+    (tree-accepted (a .frame .now) (r .read-job .result) (r .read-job .ensures .0) (bytes k) (k .if1 .left) (sym (tree-answer (jobOf (a .frame .now)) (l .0) (l .1 .0) (l .1 .1 .0) (l .1 .1 .1 .0) (kept k) (r .read-job .result .nodes) (r .read-job .result .edges) (t .tree-ranks .result) (t .tree-ranks .last .1 .1 .1 .0) (header-nodes (a .frame .now) (r .read-job .result) (r .read-job .ensures .0) (bytes k) (k .if1 .left)) (header-edges (a .frame .now) (r .read-job .result) (r .read-job .ensures .0) (bytes k) (k .if1 .left)) (t .tree-ranks .ensures .0) (t .tree-ranks .ensures .1 .0) (t .tree-ranks .ensures .1 .1) (q .before .before .before .before .before .if2 .left) (q .question6 .result) (q .question6 .ensures .0)) ∙ yes), λ z. tree-held (jobOf (a .frame .now)) (l .0) (l .1 .0) (l .1 .1 .0) (l .1 .1 .1 .0) (kept k) (r .read-job .result .nodes) (r .read-job .result .edges) (t .tree-ranks .result) (t .tree-ranks .last .1 .1 .1 .0) (header-nodes (a .frame .now) (r .read-job .result) (r .read-job .ensures .0) (bytes k) (k .if1 .left)) (header-edges (a .frame .now) (r .read-job .result) (r .read-job .ensures .0) (bytes k) (k .if1 .left)) (t .tree-ranks .ensures .0) (t .tree-ranks .ensures .1 .0) (t .tree-ranks .ensures .1 .1) (q .before .before .before .before .before .if2 .left) (q .question6 .last .1 .1 .1 .1 .1 .0) (q .question6 .ensures .1 yes))
 
 pub accept-spec : {M : Type 1} → statement M
 accept-spec =

@@ -1,0 +1,2 @@
+-- Which arrays may be judged.
+pub mod Fit
