@@ -35,7 +35,7 @@ empty-places e =
       end₁ = ap length (e .end₁) ∙ length-zeros 256;
       end₂ = ap length (e .end₂) ∙ length-zeros 256;
       cost = ap length (e .cost) ∙ length-zeros 256;
-      mark = ap length (e .mark) ∙ length-zeros 256
+      mark = ap length (e .mark) ∙ length-zeros 256;
     }
 
 -- A job of good form whose numbers stand in arrays, at every place.
@@ -69,7 +69,7 @@ stored s z₁ z₂ z₃ z₄ ts₀ as₁ as₂ as₃ as₄ b none empty full =
       places = ap length (ap (λ (l : Loaded). l .cost) full) ∙ length-sets z₃ 0 (costs ls) ∙ ap length (empty .cost) ∙ length-zeros 256;
       nodes-few = omega (arith, ap (λ (j : Job). j .nodes) (job-of s ns b (f .divides)), f .counted .node-limit);
       edges-few = few;
-      ends-hold = subst EndsHold (sym (job-of s ns b (f .divides))) (f .ends)
+      ends-hold = subst EndsHold (sym (job-of s ns b (f .divides))) (f .ends);
     }
 
 module _ (j : Job) (as₁ as₂ as₃ as₄ : List ℕ) (h : Stored j as₁ as₂ as₃ as₄) where
@@ -115,7 +115,7 @@ module _ (j : Job) (as₁ as₂ as₃ as₄ : List ℕ) (h : Stored j as₁ as�
             within = omega (arith, count-few, places);
             edge = λ k l. omega (arith, rank-edge k l, h .edges-few);
             first = λ k l. omega (arith, ap (λ (f : ℕ → ℕ). f (getD ts k 0)) (h .end₁), h .ends-hold .first (getD ts k 0) (rank-edge k l), pn);
-            second = λ k l. omega (arith, ap (λ (f : ℕ → ℕ). f (getD ts k 0)) (h .end₂), h .ends-hold .second (getD ts k 0) (rank-edge k l), pn)
+            second = λ k l. omega (arith, ap (λ (f : ℕ → ℕ). f (getD ts k 0)) (h .end₂), h .ends-hold .second (getD ts k 0) (rank-edge k l), pn);
           }
 
       pub tree-answer : (r : Bool) → ((edges : ℕ) → r ≡ isTree (arrayGraph n edges as₁ as₂) (take count ts)) → r ≡ question6 j
@@ -134,5 +134,5 @@ module _ (j : Job) (as₁ as₂ as₃ as₄ : List ℕ) (h : Stored j as₁ as�
             ranks = ap (λ (c : ℕ). take c ts) (sym last) ∙ ts-are;
             ranks-places = places;
             ranked = subst (λ (c : ℕ). Ranked (j .nodes) c ts as₁ as₂) last (subst (λ (n : ℕ). Ranked n count ts as₁ as₂) pn tree-ranked);
-            walked = subst (λ (c : ℕ). Walked (j .nodes) c ts as₁ as₂ (j .nodes) mask) last (subst (λ (n : ℕ). Walked n count ts as₁ as₂ n mask) pn w)
+            walked = subst (λ (c : ℕ). Walked (j .nodes) c ts as₁ as₂ (j .nodes) mask) last (subst (λ (n : ℕ). Walked n count ts as₁ as₂ n mask) pn w);
           }

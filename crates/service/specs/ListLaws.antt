@@ -68,7 +68,7 @@ module _ (nodes edges : ℕ) (as₁ as₂ as₃ as₄ : List ℕ) (h : ListHeld 
         places = h .places .cost;
         nodes-few = limits .1;
         edges-few = limits .2;
-        ends-hold = good .ends
+        ends-hold = good .ends;
       }
 
   pub list-few : listFormRefusal (jobAt nodes edges as₁ as₂ as₃ as₄) ≡ 0 → edges ≤ 256

@@ -26,5 +26,5 @@ link-found s b h q e part p =
       is = is;
       shown = λ z l. is ∙ link-shown s e b z l;
       refused = λ n. is ∙ link-refused (refusal s) s e n;
-      past = λ z l. is ∙ link-past s e b z l
+      past = λ z l. is ∙ link-past s e b z l;
     }

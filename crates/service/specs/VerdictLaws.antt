@@ -71,12 +71,14 @@ tree-judged-of s b r e =
     record {
       said = e;
       first = first-no s b;
-      yes-means =
-        (λ y. let (z, w) = verdict-yes (refusal s) (judgeTree (jobOf s)) .0 (sym e ∙ y) in (z, tree-judged (jobOf s) (accepted s b z) .0 w),
-        λ h. e ∙ verdict-yes (refusal s) (judgeTree (jobOf s)) .1 (h .0, tree-judged (jobOf s) (accepted s b (h .0)) .1 (h .1)));
-      no-means =
-        (λ y. let (z, w) = verdict-no (refusal s) (judgeTree (jobOf s)) .0 (sym e ∙ y) in (z, word-no (judgeTree (jobOf s)) (tree-judged (jobOf s) (accepted s b z)) .0 w),
-        λ h. e ∙ verdict-no (refusal s) (judgeTree (jobOf s)) .1 (h .0, word-no (judgeTree (jobOf s)) (tree-judged (jobOf s) (accepted s b (h .0))) .1 (h .1)))
+      yes-means = (
+        λ y. let (z, w) = verdict-yes (refusal s) (judgeTree (jobOf s)) .0 (sym e ∙ y) in (z, tree-judged (jobOf s) (accepted s b z) .0 w),
+        λ h. e ∙ verdict-yes (refusal s) (judgeTree (jobOf s)) .1 (h .0, tree-judged (jobOf s) (accepted s b (h .0)) .1 (h .1)),
+      );
+      no-means = (
+        λ y. let (z, w) = verdict-no (refusal s) (judgeTree (jobOf s)) .0 (sym e ∙ y) in (z, word-no (judgeTree (jobOf s)) (tree-judged (jobOf s) (accepted s b z)) .0 w),
+        λ h. e ∙ verdict-no (refusal s) (judgeTree (jobOf s)) .1 (h .0, word-no (judgeTree (jobOf s)) (tree-judged (jobOf s) (accepted s b (h .0))) .1 (h .1)),
+      );
     }
 
 -- The verdict, by the tests of the code.

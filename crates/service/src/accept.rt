@@ -26,9 +26,7 @@ pub fn accept(
 ) -> Header
     requires { ⌜ Empty (now end1) (now end2) (now cost) (now mark) (now ts) ⌝ }
     ensures header { λ r. ⌜ r ≡ acceptedHeader (now (frame .entry)) ⌝ }
-    ensures job {
-        λ r. ⌜ (r .refusal ≡ 0 → Held (jobOf (now (frame .entry))) (now (end1 .exit)) (now (end2 .exit)) (now (cost .exit)) (now (mark .exit)) (now (ts .exit)) (now (mask .exit))) ⌝
-    }
+    ensures job { λ r. ⌜ (r .refusal ≡ 0 → Held (jobOf (now (frame .entry))) (now (end1 .exit)) (now (end2 .exit)) (now (cost .exit)) (now (mark .exit)) (now (ts .exit)) (now (mask .exit))) ⌝ }
 {
     let header = job::read::read_job(frame, end1, end2, cost, mark);
     let refusal = header.refusal;

@@ -13,6 +13,14 @@ pub fn find_link(frame: &[u8], edge: Edge) -> &[u8]
     let mut mark = [0u32; 256];
     let mut ts = [0u32; 256];
     let mut mask = [0u64; 64];
-    let header = accept(frame, &mut end1, &mut end2, &mut cost, &mut mark, &mut ts, &mut mask);
+    let header = accept(
+        frame,
+        &mut end1,
+        &mut end2,
+        &mut cost,
+        &mut mark,
+        &mut ts,
+        &mut mask,
+    );
     job::find::find_link(frame, header, edge)
 }

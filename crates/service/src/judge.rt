@@ -19,7 +19,15 @@ pub fn judge(frame: &[u8]) -> Verdict
     let mut mark = [0u32; 256];
     let mut ts = [0u32; 256];
     let mut mask = [0u64; 64];
-    let header = accept(frame, &mut end1, &mut end2, &mut cost, &mut mark, &mut ts, &mut mask);
+    let header = accept(
+        frame,
+        &mut end1,
+        &mut end2,
+        &mut cost,
+        &mut mark,
+        &mut ts,
+        &mut mask,
+    );
     let refusal = header.refusal;
     if refusal != 0 {
         return Verdict::Refused(refusal);

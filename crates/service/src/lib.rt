@@ -1,5 +1,5 @@
 // The public face: services on job and answer frames. None of them has a `requires`.
 pub mod accept;
-pub mod judge;
 pub mod find;
+pub mod judge;
 pub mod write;

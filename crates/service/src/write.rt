@@ -16,9 +16,7 @@ pub fn check_list(
     mark: &[u32; 256],
 ) -> u32
     requires { ⌜ ListHeld edges (now end1) (now end2) (now cost) (now mark) ⌝ }
-    ensures {
-        λ r. ⌜ r ≡ listRefusal (jobAt nodes edges (now (end1 .entry)) (now (end2 .entry)) (now (cost .entry)) (now (mark .entry))) ⌝
-    }
+    ensures { λ r. ⌜ r ≡ listRefusal (jobAt nodes edges (now (end1 .entry)) (now (end2 .entry)) (now (cost .entry)) (now (mark .entry))) ⌝ }
 {
     let refusal = job::write::check_list(nodes, edges, end1, end2, cost, mark);
     if refusal != 0 {
@@ -48,11 +46,9 @@ pub fn write_list(
     at: usize,
 ) -> Reply
     requires { ⌜ ListHeld edges (now end1) (now end2) (now cost) (now mark) ⌝ }
-    ensures {
-        λ r. ⌜ outcome r (now (area .exit))
-            ≡ written (listRefusal (jobAt nodes edges (now (end1 .entry)) (now (end2 .entry)) (now (cost .entry)) (now (mark .entry))))
-            (jobFrame (jobAt nodes edges (now (end1 .entry)) (now (end2 .entry)) (now (cost .entry)) (now (mark .entry)))) at (now (area .entry)) ⌝
-    }
+    ensures { λ r. ⌜ outcome r (now (area .exit))
+        ≡ written (listRefusal (jobAt nodes edges (now (end1 .entry)) (now (end2 .entry)) (now (cost .entry)) (now (mark .entry))))
+        (jobFrame (jobAt nodes edges (now (end1 .entry)) (now (end2 .entry)) (now (cost .entry)) (now (mark .entry)))) at (now (area .entry)) ⌝ }
 {
     let refusal = check_list(nodes, edges, end1, end2, cost, mark);
     job::write::write_job(refusal, nodes, edges, end1, end2, cost, mark, area, at)

@@ -148,8 +148,8 @@ walked-judged nodes edges count ranks as₁ as₂ mask h l e₁ e₂ same =
       first = λ e b. omega (arith, h .small, e₁ e b);
       second = λ e b. omega (arith, h .small, e₂ e b);
       below = λ v k b.
-        ap (λ f. f v k) same
-        ∙ path-below (arrayGraph nodes edges as₁ as₂) (take count ranks) v k (omega (arith, length-take-le count ranks (h .within)));
+          ap (λ f. f v k) same
+          ∙ path-below (arrayGraph nodes edges as₁ as₂) (take count ranks) v k (omega (arith, length-take-le count ranks (h .within)));
     }
 
 marked : (t x y : Bool) → x ≡ y → (t || x) ≡ (not (true && not t) || y)

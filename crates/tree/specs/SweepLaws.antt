@@ -134,7 +134,7 @@ module _ (nodes count : ℕ) (ranks as₁ as₂ : List ℕ) where
       → Walked nodes count ranks as₁ as₂ (front .found) mask
   walked front mask l e =
       let all : (edges : ℕ) → held front mask ≡ rooted (arrayGraph nodes edges as₁ as₂) (take count ranks) =
-            λ edges. e ∙ sweeps-alike 64 256 nodes edges as₁ as₂ (take count ranks) nodes root in
+      λ edges. e ∙ sweeps-alike 64 256 nodes edges as₁ as₂ (take count ranks) nodes root in
       record {
         found = λ edges. ap (λ (st : Rooted). st .found) (all edges);
         paths = λ edges. ap (λ (st : Rooted). st .path) (all edges);
@@ -161,19 +161,19 @@ module _ (nodes count : ℕ) (ranks as₁ as₂ : List ℕ) where
         let found : next .found ≡ sweep (arrayGraph 64 256 as₁ as₂) (take count ranks) (held front mask) .found = ap (λ (st : Rooted). st .found) e in
         record {
           few =
-            omega (
-              arith,
-              found,
-              h .few,
-              ranked .few,
-              length-take-le count ranks (ranked .within),
-              scan-few (arrayGraph 64 256 as₁ as₂) (take count ranks) (length (take count ranks)) 0 (held front mask),
-            );
+              omega (
+                arith,
+                found,
+                h .few,
+                ranked .few,
+                length-take-le count ranks (ranked .within),
+                scan-few (arrayGraph 64 256 as₁ as₂) (take count ranks) (length (take count ranks)) 0 (held front mask),
+              );
           places = places;
           rest =
-            rw e
-            (sym (round-more (arrayGraph 64 256 as₁ as₂) (take count ranks) rounds (held front mask) l (λ q. differ (found ∙ q)))
-            ∙ h .rest);
+              rw e
+              (sym (round-more (arrayGraph 64 256 as₁ as₂) (take count ranks) rounds (held front mask) l (λ q. differ (found ∙ q)))
+              ∙ h .rest);
         }
 
 -- Nodes below 64 will do.

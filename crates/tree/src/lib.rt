@@ -6,7 +6,9 @@ ghost use lib.ListN.{length, take};
 ghost use Rattle.bits.specs.Bit.{bit};
 ghost use Rattle.graph.specs.Paths.{attach, sweep, rooted, isTree, judge as judged};
 ghost use Rattle.tree.specs.Arrays.{arrayGraph, arrayTree, arrayCost, paths, across, held, tried, Room, Ranked, Walked, spareHolds, Spare, Judged};
-use ids::{Edge, Node, TreeRank};
+use ids::Edge;
+use ids::Node;
+use ids::TreeRank;
 
 // What has been found from node 0: how many nodes, and which.
 pub struct Front {
@@ -59,9 +61,7 @@ fn sweep(
 ) -> Front
     requires { ⌜ Ranked 64 count (now ranks) (now end1) (now end2) ⌝ }
     requires { ⌜ (front .found ≤ 8192) × (length (now mask) ≡ 64) ⌝ }
-    ensures state {
-        λ r. ⌜ held r (now (mask .exit)) ≡ sweep (arrayGraph 64 256 (now (end1 .entry)) (now (end2 .entry))) (take count (now (ranks .entry))) (held front (now (mask .entry))) ⌝
-    }
+    ensures state { λ r. ⌜ held r (now (mask .exit)) ≡ sweep (arrayGraph 64 256 (now (end1 .entry)) (now (end2 .entry))) (take count (now (ranks .entry))) (held front (now (mask .entry))) ⌝ }
     ensures places { λ r. ⌜ length (now (mask .exit)) ≡ 64 ⌝ }
 {
     let mut next = front;
@@ -87,9 +87,7 @@ pub fn root_paths(
     mask: &mut [u64; 64],
 ) -> u32
     requires { ⌜ Ranked nodes count (now ranks) (now end1) (now end2) ⌝ }
-    ensures {
-        λ r. ⌜ Walked nodes count (now (ranks .entry)) (now (end1 .entry)) (now (end2 .entry)) r (now (mask .exit)) ⌝
-    }
+    ensures { λ r. ⌜ Walked nodes count (now (ranks .entry)) (now (end1 .entry)) (now (end2 .entry)) r (now (mask .exit)) ⌝ }
 {
     *mask = [0u64; 64];
     let mut front = Front {
@@ -118,12 +116,8 @@ pub fn question6(
     mask: &mut [u64; 64],
 ) -> bool
     requires { ⌜ Ranked nodes count (now ranks) (now end1) (now end2) ⌝ }
-    ensures answer {
-        λ r. ⌜ ((edges : ℕ) → r ≡ isTree (arrayGraph nodes edges (now (end1 .entry)) (now (end2 .entry))) (take count (now (ranks .entry)))) ⌝
-    }
-    ensures walked {
-        λ r. ⌜ (r ≡ true → Walked nodes count (now (ranks .entry)) (now (end1 .entry)) (now (end2 .entry)) nodes (now (mask .exit))) ⌝
-    }
+    ensures answer { λ r. ⌜ ((edges : ℕ) → r ≡ isTree (arrayGraph nodes edges (now (end1 .entry)) (now (end2 .entry))) (take count (now (ranks .entry)))) ⌝ }
+    ensures walked { λ r. ⌜ (r ≡ true → Walked nodes count (now (ranks .entry)) (now (end1 .entry)) (now (end2 .entry)) nodes (now (mask .exit))) ⌝ }
 {
     if count + 1 != nodes as usize {
         return false;
@@ -158,9 +152,7 @@ fn spare_holds(
     mask: &[u64; 64],
 ) -> bool
     requires { ⌜ Spare (spare .0) (now ranks) (now end1) (now end2) (now mask) ⌝ }
-    ensures {
-        λ r. ⌜ r ≡ spareHolds (now (ranks .entry)) (now (end1 .entry)) (now (end2 .entry)) (now (cost .entry)) (now (mask .entry)) (spare .0) ⌝
-    }
+    ensures { λ r. ⌜ r ≡ spareHolds (now (ranks .entry)) (now (end1 .entry)) (now (end2 .entry)) (now (cost .entry)) (now (mask .entry)) (spare .0) ⌝ }
 {
     let s = spare.0 as usize;
     let limit = cost[s];
@@ -190,10 +182,8 @@ pub fn judge(
     mask: &[u64; 64],
 ) -> bool
     requires { ⌜ Judged edges count (now ranks) (now end1) (now end2) (now mask) ⌝ }
-    ensures {
-        λ r. ⌜ ((nodes : ℕ) → paths (now (mask .entry)) ≡ rooted (arrayGraph nodes edges (now (end1 .entry)) (now (end2 .entry))) (take count (now (ranks .entry))) .path
-            → r ≡ judged (arrayGraph nodes edges (now (end1 .entry)) (now (end2 .entry))) (arrayTree (now (mark .entry))) (arrayCost (now (cost .entry))) (take count (now (ranks .entry)))) ⌝
-    }
+    ensures { λ r. ⌜ ((nodes : ℕ) → paths (now (mask .entry)) ≡ rooted (arrayGraph nodes edges (now (end1 .entry)) (now (end2 .entry))) (take count (now (ranks .entry))) .path
+        → r ≡ judged (arrayGraph nodes edges (now (end1 .entry)) (now (end2 .entry))) (arrayTree (now (mark .entry))) (arrayCost (now (cost .entry))) (take count (now (ranks .entry)))) ⌝ }
 {
     let mut e: usize = 0;
     while e < edges {

@@ -13,12 +13,12 @@ has-requires-2 : tie.Need-has-requires-2
 has-requires-2 c κs = search needs
 
 returns : tie.Need-returns
-returns c = 
+returns c =
     let h = c .before .before .before in
     let s = h .before in
-    let a = s .args in
-    (
-      sym (tried-both (a .u .0) (a .v .0) (a .k .0) (held (a .front) (a .mask .now)) (sym (h .has .ensures) ∙ c .before .before .if1 .taken) (sym (c .before .has2 .ensures) ∙ c .if2 .taken)),
+    let a = s .args in (
+      sym (tried-both (a .u .0) (a .v .0) (a .k .0) (held (a .front) (a .mask .now))
+          (sym (h .has .ensures) ∙ c .before .before .if1 .taken) (sym (c .before .has2 .ensures) ∙ c .if2 .taken)),
       s .pre .places,
     )
 
@@ -26,13 +26,14 @@ reach-requires : tie.Need-reach-requires
 reach-requires c κs = search needs
 
 returns-2 : tie.Need-returns-2
-returns-2 c = 
+returns-2 c =
     let i = c .before .before in
     let h = i .before .before .before in
     let s = h .before in
-    let a = s .args in
-    (
-      c .reach .ensures .0 ∙ sym (tried-forth (a .u .0) (a .v .0) (a .k .0) (held (a .front) (a .mask .now)) (sym (h .has .ensures) ∙ i .before .before .if1 .taken) (sym (i .before .has2 .ensures) ∙ i .if2 .left)),
+    let a = s .args in (
+      c .reach .ensures .0
+          ∙ sym (tried-forth (a .u .0) (a .v .0) (a .k .0) (held (a .front) (a .mask .now))
+          (sym (h .has .ensures) ∙ i .before .before .if1 .taken) (sym (i .before .has2 .ensures) ∙ i .if2 .left)),
       c .reach .ensures .1,
     )
 
@@ -43,23 +44,24 @@ reach-requires-2 : tie.Need-reach-requires-2
 reach-requires-2 c κs = search needs
 
 returns-3 : tie.Need-returns-3
-returns-3 c = 
+returns-3 c =
     let i = c .before .before in
     let h = i .before .before .before in
     let s = h .before in
-    let a = s .args in
-    (
-      c .reach2 .ensures .0 ∙ sym (tried-back (a .u .0) (a .v .0) (a .k .0) (held (a .front) (a .mask .now)) (sym (h .has .ensures) ∙ i .before .before .if1 .left) (sym (i .before .has3 .ensures) ∙ i .if3 .taken)),
+    let a = s .args in (
+      c .reach2 .ensures .0
+          ∙ sym (tried-back (a .u .0) (a .v .0) (a .k .0) (held (a .front) (a .mask .now))
+          (sym (h .has .ensures) ∙ i .before .before .if1 .left) (sym (i .before .has3 .ensures) ∙ i .if3 .taken)),
       c .reach2 .ensures .1,
     )
 
 returns-4 : tie.Need-returns-4
-returns-4 c = 
+returns-4 c =
     let h = c .before .before .before in
     let s = h .before in
-    let a = s .args in
-    (
-      sym (tried-neither (a .u .0) (a .v .0) (a .k .0) (held (a .front) (a .mask .now)) (sym (h .has .ensures) ∙ c .before .before .if1 .left) (sym (c .before .has3 .ensures) ∙ c .if3 .left)),
+    let a = s .args in (
+      sym (tried-neither (a .u .0) (a .v .0) (a .k .0) (held (a .front) (a .mask .now))
+          (sym (h .has .ensures) ∙ c .before .before .if1 .left) (sym (c .before .has3 .ensures) ∙ c .if3 .left)),
       s .pre .places,
     )
 

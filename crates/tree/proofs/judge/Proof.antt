@@ -57,15 +57,17 @@ loop-less : tie.Need-loop-less Inv-loop μ-loop
 loop-less c = omega arith
 
 loop-again : tie.Need-loop-again Inv-loop μ-loop
-loop-again c = 
+loop-again c =
     let i = c .before .before in
     let l = i .before .loop in
     let s = i .before .before in
-    let a = s .args in
-    (omega arith, all-more (l .e) (holds s) (l .inv .1) (⊎-elim
-    (λ w. link-spare (a .ranks .now) (a .end1 .now) (a .end2 .now) (a .cost .now) (a .mark .now) (a .mask .now) (l .e) (w .0 .taken) ∙ sym (w .1 .ensures) ∙ not-false _ (w .2 .left))
-    (λ w. link-marked (a .ranks .now) (a .end1 .now) (a .end2 .now) (a .cost .now) (a .mark .now) (a .mask .now) (l .e) (w .left))
-    (c .if1 .came)))
+    let a = s .args in (
+      omega arith,
+      all-more (l .e) (holds s) (l .inv .1) (⊎-elim
+          (λ w. link-spare (a .ranks .now) (a .end1 .now) (a .end2 .now) (a .cost .now) (a .mark .now) (a .mask .now) (l .e) (w .0 .taken) ∙ sym (w .1 .ensures) ∙ not-false _ (w .2 .left))
+          (λ w. link-marked (a .ranks .now) (a .end1 .now) (a .end2 .now) (a .cost .now) (a .mark .now) (a .mask .now) (l .e) (w .left))
+          (c .if1 .came)),
+    )
 
 returns-2 : tie.Need-returns-2 Inv-loop μ-loop
 returns-2 c = λ nodes same.

@@ -11,7 +11,7 @@ add-if1 : tie.Need-add-if1
 add-if1 c = search needs
 
 returns : tie.Need-returns
-returns c = 
+returns c =
     let s = c .before in
     let a = s .args in
     (λ edges. sym (tree-missed (a .nodes) (a .count) (a .ranks .now) (a .end1 .now) (a .end2 .now) (s .pre) edges (c .if1 .taken)), λ h. clash h refl)
@@ -20,11 +20,10 @@ root-paths-requires : tie.Need-root-paths-requires
 root-paths-requires c κs = search needs
 
 returns-2 : tie.Need-returns-2
-returns-2 c = 
+returns-2 c =
     let i = c .before .before in
     let s = i .before in
-    let a = s .args in
-    (
+    let a = s .args in (
       λ edges. tree-found (a .nodes) (a .count) (a .ranks .now) (a .end1 .now) (a .end2 .now) (s .pre) edges (c .root-paths .result) _ (i .if1 .left) (c .root-paths .ensures),
       λ h. rw (eqb-true (c .root-paths .result) (a .nodes) h) at (c .root-paths .ensures),
     )

@@ -34,13 +34,12 @@ with-requires : tie.Need-with-requires
 with-requires c κs = search needs
 
 returns : tie.Need-returns
-returns c = 
+returns c =
     let f = c .before .before in
     let s = f .before .before .before .before in
-    let a = s .args in
-    (
+    let a = s .args in (
       reach-held (a .front) (a .mask .now) (a .u .0) (a .v .0) (a .k .0) (c .with .result) (f .flip .result)
-      (omega (arith, s .pre .second, s .pre .places)) (c .with .ensures) (f .flip .ensures),
+          (omega (arith, s .pre .second, s .pre .places)) (c .with .ensures) (f .flip .ensures),
       simp length-set (s .pre .places),
     )
 

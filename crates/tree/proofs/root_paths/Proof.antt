@@ -12,23 +12,24 @@ abbrev μ-loop : tie.MeasureT-loop
 μ-loop nodes ranks count end1 end2 mask₀ front₀ rounds₀ mask front rounds = rounds
 
 loop-holds : tie.Need-loop-holds Inv-loop μ-loop
-loop-holds c = 
+loop-holds c =
     let a = c .before .args in
     rounds-start (a .nodes) (a .count) (a .ranks .now) (a .end1 .now) (a .end2 .now)
 
 sweep-requires : tie.Need-sweep-requires Inv-loop μ-loop
-sweep-requires c κs = 
+sweep-requires c κs =
     let l = c .before .before .loop in
     let s = c .before .before .before .before in
     (ranked-most _ _ _ _ _ (s .pre), (omega (arith, l .inv .few, s .pre .small), l .inv .places))
 
 returns : tie.Need-returns Inv-loop μ-loop
-returns c = 
+returns c =
     let w = c .before .before .before in
     let l = w .before .before .before .loop in
     let s = w .before .before .before .before .before in
     let a = s .args in
-    rounds-last (a .nodes) (a .count) (a .ranks .now) (a .end1 .now) (a .end2 .now) (l .rounds) (l .front) (l .mask) (l .inv) (w .before .before .loop-test .taken) (w .sweep .result) _ (w .sweep .ensures .0) (w .sweep .ensures .1) (c .if1 .taken)
+    rounds-last (a .nodes) (a .count) (a .ranks .now) (a .end1 .now) (a .end2 .now) (l .rounds) (l .front) (l .mask) (l .inv)
+    (w .before .before .loop-test .taken) (w .sweep .result) _ (w .sweep .ensures .0) (w .sweep .ensures .1) (c .if1 .taken)
 
 sub-rounds : tie.Need-sub-rounds Inv-loop μ-loop
 sub-rounds c = omega arith
@@ -37,15 +38,16 @@ loop-less : tie.Need-loop-less Inv-loop μ-loop
 loop-less c = omega arith
 
 loop-again : tie.Need-loop-again Inv-loop μ-loop
-loop-again c = 
+loop-again c =
     let w = c .before .before .before in
     let l = w .before .before .before .loop in
     let s = w .before .before .before .before .before in
     let a = s .args in
-    rounds-more (a .nodes) (a .count) (a .ranks .now) (a .end1 .now) (a .end2 .now) (l .rounds) (l .front) (l .mask) (l .inv) (w .before .before .loop-test .taken) (w .sweep .result) _ (w .sweep .ensures .0) (w .sweep .ensures .1) (s .pre) (c .if1 .left)
+    rounds-more (a .nodes) (a .count) (a .ranks .now) (a .end1 .now) (a .end2 .now) (l .rounds) (l .front) (l .mask) (l .inv)
+    (w .before .before .loop-test .taken) (w .sweep .result) _ (w .sweep .ensures .0) (w .sweep .ensures .1) (s .pre) (c .if1 .left)
 
 returns-2 : tie.Need-returns-2 Inv-loop μ-loop
-returns-2 c = 
+returns-2 c =
     let l = c .before .loop in
     let s = c .before .before .before in
     let a = s .args in

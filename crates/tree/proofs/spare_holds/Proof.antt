@@ -59,7 +59,7 @@ crossing-requires : tie.Need-crossing-requires Inv-loop μ-loop
 crossing-requires c κs = omega arith
 
 loop-holds : tie.Need-loop-holds Inv-loop μ-loop
-loop-holds c = 
+loop-holds c =
     let s = c .before .before .before .before .before in
     (omega arith, λ k h. s .pre .edge k (sym (c .crossing .ensures k) ∙ h), refl)
 
@@ -85,41 +85,43 @@ element-copy-out-if1 : tie.Need-element-copy-out-if1 Inv-loop μ-loop
 element-copy-out-if1 c = omega (arith, edge-below (c .before))
 
 returns : tie.Need-returns Inv-loop μ-loop
-returns c = 
+returns c =
     let e = c .before .before .before in
     let l = e .before .before .loop in
     let x = e .before .before .before in
     let s = x .before .before .before .before .before in
     let a = s .args in
-    let missed = word-miss (l .left) (omega arith) (l .inv .0) (e .lowest .result) (e .lowest .ensures) (λ k. leb (getD (a .cost .now) (getD (a .ranks .now) k 0) 0) (getD (a .cost .now) (a .spare .0) 0)) (lt-leb _ _ (c .if1 .taken)) in
-    sym missed ∙ l .inv .2 ∙ word-across (a .mask .now) (getD (a .end1 .now) (a .spare .0) 0) (getD (a .end2 .now) (a .spare .0) 0) (x .crossing .result) _ (x .crossing .ensures)
+    let missed = word-miss (l .left) (omega arith) (l .inv .0) (e .lowest .result) (e .lowest .ensures)
+    (λ k. leb (getD (a .cost .now) (getD (a .ranks .now) k 0) 0) (getD (a .cost .now) (a .spare .0) 0)) (lt-leb _ _ (c .if1 .taken)) in
+    sym missed ∙ l .inv .2
+    ∙ word-across (a .mask .now) (getD (a .end1 .now) (a .spare .0) 0) (getD (a .end2 .now) (a .spare .0) 0) (x .crossing .result) _ (x .crossing .ensures)
 
 without-lowest-requires : tie.Need-without-lowest-requires Inv-loop μ-loop
 without-lowest-requires c κs = omega arith
 
 loop-less : tie.Need-loop-less Inv-loop μ-loop
-loop-less c = 
+loop-less c =
     let e = c .before .before .before .before in
     let l = e .before .before .loop in
     word-less (l .left) (omega arith) (l .inv .0) (e .lowest .result) (e .lowest .ensures) (c .without-lowest .result) (c .without-lowest .ensures)
 
 loop-again : tie.Need-loop-again Inv-loop μ-loop
-loop-again c = 
+loop-again c =
     let e = c .before .before .before .before in
     let l = e .before .before .loop in
-    let some : 0 < l .left = omega arith in
-    (
+    let some : 0 < l .left = omega arith in (
       omega arith,
       λ k h. l .inv .1 k (word-part (l .left) some (l .inv .0) (e .lowest .result) (e .lowest .ensures) (c .without-lowest .result) (c .without-lowest .ensures) k h),
       word-turn (l .left) some (l .inv .0) (e .lowest .result) (e .lowest .ensures) (c .without-lowest .result) (c .without-lowest .ensures) _ (le-leb _ _ (c .before .if1 .left)) ∙ l .inv .2,
     )
 
 returns-2 : tie.Need-returns-2 Inv-loop μ-loop
-returns-2 c = 
+returns-2 c =
     let l = c .before .loop in
     let x = c .before .before in
     let a = x .before .before .before .before .before .args in
-    sym (word-end _ (l .left) (c .loop-test .left)) ∙ l .inv .2 ∙ word-across (a .mask .now) (getD (a .end1 .now) (a .spare .0) 0) (getD (a .end2 .now) (a .spare .0) 0) (x .crossing .result) _ (x .crossing .ensures)
+    sym (word-end _ (l .left) (c .loop-test .left)) ∙ l .inv .2
+    ∙ word-across (a .mask .now) (getD (a .end1 .now) (a .spare .0) 0) (getD (a .end2 .now) (a .spare .0) 0) (x .crossing .result) _ (x .crossing .ensures)
 
 pub spare-holds-spec : {M : Type 1} → statement M
 spare-holds-spec =

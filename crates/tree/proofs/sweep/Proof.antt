@@ -51,7 +51,7 @@ cast-rank : tie.Need-cast-rank Inv-loop μ-loop
 cast-rank c = omega arith
 
 grow-requires : tie.Need-grow-requires Inv-loop μ-loop
-grow-requires c κs = 
+grow-requires c κs =
     let i = c .before .before .before .before in
     let l = i .before .loop in
     let s = i .before .before in
@@ -70,18 +70,17 @@ loop-less : tie.Need-loop-less Inv-loop μ-loop
 loop-less c = omega arith
 
 loop-again : tie.Need-loop-again Inv-loop μ-loop
-loop-again c = 
+loop-again c =
     let i = c .before .before .before .before .before in
     let l = i .before .loop in
-    let a = i .before .before .args in
-    (
+    let a = i .before .before .args in (
       omega arith,
       c .grow .ensures .1,
       sweep-turn (a .count) (a .ranks .now) (a .end1 .now) (a .end2 .now) _ (held (l .next) (l .mask)) _ (l .k) (l .inv .2) (rank-below i) (c .grow .ensures .0),
     )
 
 returns : tie.Need-returns Inv-loop μ-loop
-returns c = 
+returns c =
     let l = c .before .loop in
     let s = c .before .before in
     (sweep-end (s .args .count) (s .args .ranks .now) (s .args .end1 .now) (s .args .end2 .now) _ _ (l .k) (s .pre .0 .within) (l .inv .2) (c .loop-test .left), l .inv .1)
