@@ -16,7 +16,7 @@ zeros n = replicate n zero
 pub length-zeros : (n : ℕ) → length (zeros n) ≡ n
 length-zeros n = length-replicate n zero
 
-zero-at : (n k : ℕ) → getD (zeros n) k 0 ≡ zero
+pub zero-at : (n k : ℕ) → getD (zeros n) k 0 ≡ zero
 zero-at n k =
     elim (decLt k n) [
       | yes l ↦ getD-replicate n k zero 0 l

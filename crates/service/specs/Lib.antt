@@ -8,3 +8,6 @@ pub mod Parts
 pub mod PartLaws
 pub mod Lists
 pub mod ListLaws
+pub mod Solving
+pub mod WidenLaws
+pub mod SolveLaws

@@ -3,3 +3,4 @@ pub mod accept;
 pub mod find;
 pub mod judge;
 pub mod write;
+pub mod solve;

@@ -1,0 +1,153 @@
+-- One origin: what its search has newly seen gets its label, and each way out of the code meets the model's.
+-- Assumes nothing.
+use Prim.Native.Nat.{ℕ, suc, _-_, _<_}
+use native.Mathlib.Nat.{zero-add}
+use native.Mathlib.Omega.{arith}
+use mathlib.Core.Path.{_≡_, refl, sym, ap, ap₂, subst, _∙_, fun-ext}
+use mathlib.Core.Bool.{true, false, cond, not, _&&_, _||_}
+use mathlib.Core.List.{List}
+use lib.Dec.{eqb}
+use lib.ListN.{length, getD}
+use Rattle.bits.specs.Bit.{bit}
+use Rattle.sets.specs.Sets.{member}
+use Rattle.optimum.specs.Search.{Problem, Search, seeSpare, search}
+use Rattle.optimum.specs.Lowest.{fresh, labelled, matched, labelTree, mateSearch, labelSpare}
+use Rattle.search.specs.State.{matesOf, stateOf, Swept}
+use Rattle.search.specs.SpareSteps.{state-spare}
+use Rattle.matching.specs.AugmentSteps.{or-true}
+use Rattle.labels.specs.Store.{Store, labelsOf, Sized, Filled, SparesFilled, Relabelled, MateSwept, TreeLabelled, SpareLabelled}
+
+-- Both kinds of label written.
+pub relabelled : (x old-trees : ℕ) (old-spares : List ℕ) (trees : ℕ) (spares tree-label spare-label tree-label′ spare-label′ : List ℕ)
+    → length tree-label ≡ 64 → length spare-label ≡ 256
+    → (w : ℕ) → ((j : ℕ) → bit w j ≡ (bit trees j && not (bit old-trees j)))
+    → Filled w 0 x tree-label tree-label′ → SparesFilled x old-spares spares spare-label spare-label′
+    → Relabelled x old-trees old-spares trees spares tree-label spare-label tree-label′ spare-label′
+relabelled x old-trees old-spares trees spares tree-label spare-label tree-label′ spare-label′ l m w less f g =
+    record {
+      tree-length = f .size ∙ l;
+      spare-length = g .size ∙ m;
+      at-tree = λ t. subst (λ (j : ℕ). getD tree-label′ j 0 ≡ cond (bit w t) x (getD tree-label j 0)) (zero-add t) (f .inside t) ∙ rw (less t);
+      at-spare = g .at;
+    }
+
+-- In the model.
+model-labelled : (x : ℕ) (b b′ : Store) → Relabelled x (b .trees) (b .spares) (b′ .trees) (b′ .spares) (b .tree-label) (b .spare-label) (b′ .tree-label) (b′ .spare-label)
+    → (st : Search) → stateOf (b′ .mates) (b′ .trees) (b′ .spares) false ≡ st → labelsOf b′ ≡ labelled x st (labelsOf b)
+model-labelled x b b′ h st e =
+    ap₂ (λ (f g : ℕ → ℕ). record { treeDone = bit (b′ .trees); spareDone = member (b′ .spares); treeLabel = f; spareLabel = g })
+    (fun-ext (h .at-tree)) (fun-ext (h .at-spare))
+    ∙ ap (λ (z : Search). labelled x z (labelsOf b)) e
+
+-- The mate of a spare rank.
+module _ (s spares : ℕ) (rows mates : List ℕ) (trees : ℕ) (seen : List ℕ) where
+  stays : length mates ≡ 256 → length seen ≡ 4
+      → ((p : Problem) → mateSearch p s (getD mates s 0) (stateOf mates trees seen false) ≡ stateOf mates trees seen false)
+      → MateSwept s spares rows mates trees seen mates trees seen
+  stays l m h =
+      record { mates-length = l; seen-length = m; below = λ n b. b; same = λ p q. refl; equal = λ p q. sym (h p) }
+
+  pub mate-none : length mates ≡ 256 → length seen ≡ 4 → getD mates s 0 ≡ 0 → MateSwept s spares rows mates trees seen mates trees seen
+  unfolding mateSearch
+  mate-none l m e = stays l m (λ p. rw e)
+
+  module _ (some : getD mates s 0 ≡ 0 → ⊥) where
+    mate-is : getD mates s 0 ≡ suc (getD mates s 0 - 1)
+    mate-is = omega arith
+
+    mate-idle : (p : Problem) (u : ℕ) → getD mates s 0 ≡ suc u → bit trees u ≡ true → mateSearch p s (getD mates s 0) (stateOf mates trees seen false) ≡ stateOf mates trees seen false
+    unfolding mateSearch
+    mate-idle p u e h = rw (e, h)
+
+    mate-goes : (p : Problem) (u : ℕ) → getD mates s 0 ≡ suc u → bit trees u ≡ false → mateSearch p s (getD mates s 0) (stateOf mates trees seen false) ≡ search p (p .spares) u (stateOf mates trees seen false)
+    unfolding mateSearch
+    mate-goes p u e h = rw (e, h)
+
+    pub mate-seen : length mates ≡ 256 → length seen ≡ 4 → bit trees (getD mates s 0 - 1) ≡ true → MateSwept s spares rows mates trees seen mates trees seen
+    mate-seen l m h = stays l m (λ p. mate-idle p (getD mates s 0 - 1) mate-is h)
+
+    pub mate-explored : bit trees (getD mates s 0 - 1) ≡ false → (mates′ : List ℕ) (trees′ : ℕ) (seen′ : List ℕ)
+        → Swept (getD mates s 0 - 1) spares rows mates trees seen mates′ trees′ seen′ → MateSwept s spares rows mates trees seen mates′ trees′ seen′
+    mate-explored h mates′ trees′ seen′ f =
+        record {
+          mates-length = f .mates-length;
+          seen-length = f .seen-length;
+          below = λ n b. f .below n (omega (arith, b s)) b;
+          same = λ p q. f .same p q (omega (arith, q .below s));
+          equal = λ p q. f .equal p q (omega (arith, q .below s)) ∙ sym (mate-goes p (getD mates s 0 - 1) mate-is h);
+        }
+
+-- A tree rank as an origin.
+module _ (t x spares matchedSet : ℕ) (rows : List ℕ) (b : Store) where
+  tree-stays : Sized b
+      → ((p : Problem) → bit matchedSet t ≡ matched p (matesOf (b .mates)) t → labelTree p (matesOf (b .mates)) t (labelsOf b) ≡ labelsOf b)
+      → TreeLabelled t x spares matchedSet rows b b
+  tree-stays z h = record { sized = z; below = λ n l c. c; same = λ p q l. refl; equal = λ p q l e m. sym (h p m) }
+
+  pub tree-matched : Sized b → bit matchedSet t ≡ true → TreeLabelled t x spares matchedSet rows b b
+  unfolding labelTree
+  tree-matched z h = tree-stays z (λ p m. rw (sym m ∙ h))
+
+  pub tree-done : Sized b → bit (b .trees) t ≡ true → TreeLabelled t x spares matchedSet rows b b
+  unfolding labelTree
+  tree-done z h = tree-stays z (λ p m. rw (h, or-true (matched p (matesOf (b .mates)) t)))
+
+  tree-model : (p : Problem) → matched p (matesOf (b .mates)) t ≡ false → bit (b .trees) t ≡ false
+      → labelTree p (matesOf (b .mates)) t (labelsOf b) ≡ labelled (p .treeCost t) (search p (p .spares) t (fresh (matesOf (b .mates)) (labelsOf b))) (labelsOf b)
+  unfolding labelTree
+  tree-model p e k = rw (e, k)
+
+  pub tree-labelled : Sized b → bit matchedSet t ≡ false → bit (b .trees) t ≡ false → t < 64 → (b′ : Store)
+      → Swept t spares rows (b .mates) (b .trees) (b .spares) (b′ .mates) (b′ .trees) (b′ .spares)
+      → Relabelled x (b .trees) (b .spares) (b′ .trees) (b′ .spares) (b .tree-label) (b .spare-label) (b′ .tree-label) (b′ .spare-label)
+      → TreeLabelled t x spares matchedSet rows b b′
+  tree-labelled z h k rank b′ f g =
+      record {
+        sized = record {
+          mates-length = f .mates-length;
+          spares-length = f .seen-length;
+          tree-length = g .tree-length;
+          spare-length = g .spare-length;
+          below = f .below 64 rank (z .below);
+        };
+        below = f .below;
+        same = f .same;
+        equal = λ p q l e m.
+            model-labelled x b b′ g (search p (p .spares) t (fresh (matesOf (b .mates)) (labelsOf b))) (f .equal p q l)
+            ∙ ap (λ (y : ℕ). labelled y (search p (p .spares) t (fresh (matesOf (b .mates)) (labelsOf b))) (labelsOf b)) (sym e)
+            ∙ sym (tree-model p (sym m ∙ h) k);
+      }
+
+-- A spare rank as an origin.
+module _ (s x spares : ℕ) (rows : List ℕ) (b : Store) where
+  pub spare-done : Sized b → member (b .spares) s ≡ true → SpareLabelled s x spares rows b b
+  unfolding labelSpare
+  spare-done z h = record { sized = z; below = λ n c. c; same = λ p q. refl; equal = λ p q e. sym (rw h) }
+
+  abbrev seenBy : Problem → Search
+  seenBy p = mateSearch p s (matesOf (b .mates) s) (seeSpare s (fresh (matesOf (b .mates)) (labelsOf b)))
+
+  spare-model : (p : Problem) → member (b .spares) s ≡ false → labelSpare p (matesOf (b .mates)) s (labelsOf b) ≡ labelled (p .spareCost s) (seenBy p) (labelsOf b)
+  unfolding labelSpare
+  spare-model p h = rw h
+
+  pub spare-labelled : Sized b → member (b .spares) s ≡ false → (marked : List ℕ) → ((j : ℕ) → member marked j ≡ (member (b .spares) j || eqb s j)) → (b′ : Store)
+      → MateSwept s spares rows (b .mates) (b .trees) marked (b′ .mates) (b′ .trees) (b′ .spares)
+      → Relabelled x (b .trees) (b .spares) (b′ .trees) (b′ .spares) (b .tree-label) (b .spare-label) (b′ .tree-label) (b′ .spare-label)
+      → SpareLabelled s x spares rows b b′
+  spare-labelled z h marked more b′ f g =
+      record {
+        sized = record {
+          mates-length = f .mates-length;
+          spares-length = f .seen-length;
+          tree-length = g .tree-length;
+          spare-length = g .spare-length;
+          below = f .below 64 (z .below);
+        };
+        below = f .below;
+        same = f .same;
+        equal = λ p q e.
+            model-labelled x b b′ g (seenBy p) (f .equal p q ∙ ap (mateSearch p s (matesOf (b .mates) s)) (state-spare (b .mates) (b .trees) (b .spares) marked s more))
+            ∙ ap (λ (y : ℕ). labelled y (seenBy p) (labelsOf b)) (sym e)
+            ∙ sym (spare-model p h);
+      }

@@ -1,0 +1,78 @@
+-- The matching in progress as the code holds it, in the words of the model, and what the functions that build it promise.
+-- Definitions only. Assumes nothing.
+use Prim.Native.Nat.{ℕ, _≤_, _<_}
+use mathlib.Core.Path.{_≡_}
+use mathlib.Core.Bool.{Bool, not, _&&_}
+use mathlib.Core.List.{List}
+use lib.Dec.{ltb, eqb}
+use lib.ListN.{length, getD}
+use Rattle.bits.specs.Bit.{bit}
+use Rattle.sets.specs.Sets.{member}
+use Rattle.optimum.specs.Search.{Problem, Progress, augment, matching}
+use Rattle.search.specs.State.{matesOf, Below, Rows}
+
+-- The mates, and the ranks that searches which failed have seen.
+abbrev pub progressOf : List ℕ → ℕ → List ℕ → Progress
+progressOf mates trees spares = record { mates = matesOf mates; treeDead = bit trees; spareDead = member spares }
+
+-- The cost of a rank: ranks lead to edges, and edges to costs.
+abbrev pub costAt : List ℕ → List ℕ → ℕ → ℕ
+costAt cost ranks k = getD cost (getD ranks k 0) 0
+
+-- The first n ranks are numbers of edges.
+abbrev pub Edges : ℕ → List ℕ → Type 0
+Edges n ranks = (k : ℕ) → k < n → getD ranks k 0 < 256
+
+-- The arrays hold the problem p.
+pub record Holds (p : Problem) (spares : ℕ) (cost ts ss rows : List ℕ) : Type 0 where
+  pub spares-are : p .spares ≡ spares
+  pub rows-are : Rows p rows
+  pub tree-cost : (t : ℕ) → t < p .trees → p .treeCost t ≡ costAt cost ts t
+  pub spare-cost : (s : ℕ) → s < p .spares → p .spareCost s ≡ costAt cost ss s
+
+-- The set of the matched spare ranks.
+abbrev pub Taken : List ℕ → List ℕ → Type 0
+Taken mates taken = (s : ℕ) → s < 256 → member taken s ≡ not (eqb (getD mates s 0) 0)
+
+-- The goal is worth a search from tree rank t: there is one, and it costs less.
+abbrev pub gain : ℕ → List ℕ → List ℕ → List ℕ → ℕ → ℕ → Bool
+gain spares cost ts ss t goal = ltb goal spares && ltb (costAt cost ss goal) (costAt cost ts t)
+
+-- What matching one more tree rank needs.
+pub record Ready (t spares : ℕ) (ts ss mates taken dead : List ℕ) : Type 0 where
+  pub rank : t < 64
+  pub few : spares ≤ 256
+  pub tree-edge : getD ts t 0 < 256
+  pub spare-edges : Edges spares ss
+  pub mates-length : length mates ≡ 256
+  pub taken-length : length taken ≡ 4
+  pub dead-length : length dead ≡ 4
+  pub below : Below 64 mates
+
+-- What it leaves: sizes, and the model's progress.
+pub record Augmented (t spares : ℕ) (cost ts ss rows mates taken : List ℕ) (trees : ℕ) (dead mates′ taken′ : List ℕ) (trees′ : ℕ) (dead′ : List ℕ) : Type 0 where
+  pub mates-length : length mates′ ≡ 256
+  pub taken-length : length taken′ ≡ 4
+  pub dead-length : length dead′ ≡ 4
+  pub below : (n : ℕ) → t < n → Below n mates → Below n mates′
+  pub equal :
+      (p : Problem) → Holds p spares cost ts ss rows → Below (p .trees) mates → t < p .trees → Taken mates taken
+      → progressOf mates′ trees′ dead′ ≡ augment p t (progressOf mates trees dead)
+  pub taken-is :
+      (p : Problem) → Holds p spares cost ts ss rows → Below (p .trees) mates → t < p .trees → Taken mates taken
+      → Taken mates′ taken′
+
+-- What building a matching needs: room for it, and nothing in it yet.
+pub record Buildable (trees spares : ℕ) (ts ss mates : List ℕ) : Type 0 where
+  pub few-trees : trees ≤ 64
+  pub few-spares : spares ≤ 256
+  pub tree-edges : Edges trees ts
+  pub spare-edges : Edges spares ss
+  pub mates-length : length mates ≡ 256
+  pub empty : (s : ℕ) → getD mates s 0 ≡ 0
+
+-- What it leaves: the model's matching.
+pub record Built (trees spares : ℕ) (cost ts ss rows mates : List ℕ) : Type 0 where
+  pub mates-length : length mates ≡ 256
+  pub below : Below trees mates
+  pub equal : (p : Problem) → p .trees ≡ trees → Holds p spares cost ts ss rows → matesOf mates ≡ matching p

@@ -1,0 +1,100 @@
+// The matching, built one tree rank at a time (specs/Progress.antt; the model is in optimum's specs/Search.antt).
+use ids::SpareRank;
+use ids::TreeRank;
+ghost use mathlib.Core.Path.{_≡_};
+ghost use Prim.Native.Nat.{_<_, _≤_};
+ghost use lib.ListN.{getD};
+ghost use Rattle.matching.specs.Progress.{Ready, Augmented, Buildable, Built, Edges, gain};
+
+// Is there a goal, and does it cost less than tree rank `t`?
+fn gains(
+    t: TreeRank,
+    goal: SpareRank,
+    spares: u32,
+    cost: &[u32; 256],
+    ts: &[u32; 256],
+    ss: &[u32; 256],
+) -> bool
+    requires { ⌜ (t .0 < 64) × (spares ≤ 256) × (getD (now ts) (t .0) 0 < 256) × Edges spares (now ss) ⌝ }
+    ensures { λ r. ⌜ r ≡ gain spares (now (cost .entry)) (now (ts .entry)) (now (ss .entry)) (t .0) (goal .0) ⌝ }
+{
+    if spares <= goal.0 {
+        return false;
+    }
+    let e = ss[goal.0 as usize];
+    let f = ts[t.0 as usize];
+    cost[e as usize] < cost[f as usize]
+}
+
+// Matches tree rank `t`, if the cheapest unmatched spare rank that alternating paths lead to costs less; else leaves
+// what the search has seen marked for good.
+fn augment(
+    t: TreeRank,
+    spares: u32,
+    cost: &[u32; 256],
+    ts: &[u32; 256],
+    ss: &[u32; 256],
+    rows: &[u64; 256],
+    mates: &mut [u32; 256],
+    taken: &mut [u64; 4],
+    tree_dead: &mut u64,
+    spare_dead: &mut [u64; 4],
+)
+    requires { ⌜ Ready (t .0) spares (now ts) (now ss) (now mates) (now taken) (now «spare_dead») ⌝ }
+    ensures { λ r. ⌜ Augmented (t .0) spares (now (cost .entry)) (now (ts .entry)) (now (ss .entry)) (now (rows .entry)) (now (mates .entry)) (now (taken .entry)) (now («tree_dead» .entry)) (now («spare_dead» .entry)) (now (mates .exit)) (now (taken .exit)) (now («tree_dead» .exit)) (now («spare_dead» .exit)) ⌝ }
+{
+    let mut tree_seen = *tree_dead;
+    let mut spare_seen = *spare_dead;
+    search::explore(t, spares, rows, mates, &mut tree_seen, &mut spare_seen);
+    let goal = sets::lowest_fresh(&spare_seen, spare_dead, taken);
+    if gains(t, SpareRank(goal), spares, cost, ts, ss) {
+        tree_seen = *tree_dead;
+        spare_seen = *spare_dead;
+        search::try_tree(
+            t,
+            SpareRank(goal),
+            rows,
+            mates,
+            &mut tree_seen,
+            &mut spare_seen,
+        );
+        sets::insert(taken, goal);
+        return;
+    }
+    *tree_dead = tree_seen;
+    *spare_dead = spare_seen;
+}
+
+// Builds the matching in `mates`, which is empty: every tree rank in turn.
+pub fn build(
+    trees: u32,
+    spares: u32,
+    cost: &[u32; 256],
+    ts: &[u32; 256],
+    ss: &[u32; 256],
+    rows: &[u64; 256],
+    mates: &mut [u32; 256],
+)
+    requires { ⌜ Buildable trees spares (now ts) (now ss) (now mates) ⌝ }
+    ensures { λ r. ⌜ Built trees spares (now (cost .entry)) (now (ts .entry)) (now (ss .entry)) (now (rows .entry)) (now (mates .exit)) ⌝ }
+{
+    let mut taken = [0u64; 4];
+    let mut tree_dead = 0u64;
+    let mut spare_dead = [0u64; 4];
+    let mut t = 0;
+    while t < trees {
+        augment(
+            TreeRank(t),
+            spares,
+            cost,
+            ts,
+            ss,
+            rows,
+            mates,
+            &mut taken,
+            &mut tree_dead,
+            &mut spare_dead,
+        );
+        t += 1;
+    }
+}

@@ -1,0 +1,484 @@
+-- The proof of the cycle of calls {try_spare, try_tree}. The measures are twice the number of tree ranks not yet seen, for `try_tree` once its own rank
+-- is marked, and one more. The loop's invariant: the model's scan from the first rank, run on the present state, gives what it gives on the first.
+-- Assumes nothing.
+use Prim.Native.Nat.{ℕ, _+_, _-_, _*_, _<_}
+use native.Mathlib.Omega.{arith}
+use mathlib.Core.Path.{sym, _∙_}
+use mathlib.Core.Bool.{true, not, _&&_}
+use lib.ListN.{getD, length-set}
+use Rattle.loops.specs.Loop.{put}
+use Rattle.bits.specs.Bit.{bit}
+use Rattle.sets.specs.Sets.{member, inRow}
+use Rattle.graph.specs.Graph.{count}
+use Rattle.search.specs.SpareSteps.{below-set, tree-falls, spare-goal, spare-free, spare-seen, spare-led, spare-failed}
+use Rattle.search.specs.TreeSteps.{Passing, passing-start, passing-end, passing-met, passing-turn, passing-less, spare-falls, first-within}
+use borrow.Fn.Kinds.{In}
+use borrow.Fn.PlainCycle.{Measures, is, falls, and}
+use Rattle.search.proofs.try_spare.Reads as try-spare
+use Rattle.search.proofs.try_spare.Kinds as try-spare-kinds
+use Rattle.search.proofs.+try_spare+try_tree.Lts-try_spare as try-spare-lts
+use Rattle.search.proofs.try_tree.Reads as try-tree
+use Rattle.search.proofs.try_tree.Kinds as try-tree-kinds
+use Rattle.search.proofs.+try_spare+try_tree.Lts-try_tree as try-tree-lts
+use Rattle.bits.proofs.has.Reads as has-reads
+use Rattle.bits.proofs.with.Reads as with-reads
+use Rattle.sets.proofs.insert.Reads as insert-reads
+use Rattle.sets.proofs.next.Reads as next-reads
+use Rattle.search.proofs.+try_spare+try_tree.{statement}
+use Rattle.search.proofs.+try_spare+try_tree.Tie.{close}
+
+abbrev μ-try-spare : Measures 4 try-spare-kinds.ps ℕ
+μ-try-spare κs a = 2 * (64 - count 64 (bit (a .1 .1 .1 .1 .1 .0 .now)))
+
+abbrev μ-try-tree : Measures 4 try-tree-kinds.ps ℕ
+μ-try-tree κs a = 2 * (64 - count 64 (put (bit (a .1 .1 .1 .1 .0 .now)) (a .0 .0) true)) + 1
+
+abbrev try-spare-at : ℕ → In 4 try-spare-kinds.ps
+try-spare-at t = and 4 try-spare-kinds.ps (is 4 try-spare-kinds.ps μ-try-spare t) try-spare.Pre
+
+abbrev try-spare-below : ℕ → In 4 try-spare-kinds.ps
+try-spare-below t =
+    and 4 try-spare-kinds.ps (falls 4 try-spare-kinds.ps _<_ μ-try-spare t) try-spare.Pre
+
+abbrev try-tree-at : ℕ → In 4 try-tree-kinds.ps
+try-tree-at t = and 4 try-tree-kinds.ps (is 4 try-tree-kinds.ps μ-try-tree t) try-tree.Pre
+
+abbrev try-tree-below : ℕ → In 4 try-tree-kinds.ps
+try-tree-below t =
+    and 4 try-tree-kinds.ps (falls 4 try-tree-kinds.ps _<_ μ-try-tree t) try-tree.Pre
+
+try-spare-insert-requires : (t : ℕ) → try-spare-lts.Need-insert-requires (
+  insert-reads.Asked,
+  insert-reads.Learnt,
+  has-reads.Asked,
+  has-reads.Learnt,
+  try-tree-below t,
+  try-tree.Post,
+) (try-spare-at t) try-spare.Post
+try-spare-insert-requires t c κs = (c .before .pre .1 .0, c .before .pre .1 .1 .seen-length)
+
+try-spare-cast-k : (t : ℕ) → try-spare-lts.Need-cast-k (
+  insert-reads.Asked,
+  insert-reads.Learnt,
+  has-reads.Asked,
+  has-reads.Learnt,
+  try-tree-below t,
+  try-tree.Post,
+) (try-spare-at t) try-spare.Post
+try-spare-cast-k t c = omega arith
+
+try-spare-add-mates : (t : ℕ) → try-spare-lts.Need-add-mates (
+  insert-reads.Asked,
+  insert-reads.Learnt,
+  has-reads.Asked,
+  has-reads.Learnt,
+  try-tree-below t,
+  try-tree.Post,
+) (try-spare-at t) try-spare.Post
+try-spare-add-mates t c = omega (arith, c .before .before .before .before .before .before .before .pre .1 .1 .rank)
+
+try-spare-mul-mates : (t : ℕ) → try-spare-lts.Need-mul-mates (
+  insert-reads.Asked,
+  insert-reads.Learnt,
+  has-reads.Asked,
+  has-reads.Learnt,
+  try-tree-below t,
+  try-tree.Post,
+) (try-spare-at t) try-spare.Post
+try-spare-mul-mates t c = omega arith
+
+try-spare-element-write-mates : (t : ℕ) → try-spare-lts.Need-element-write-mates (
+  insert-reads.Asked,
+  insert-reads.Learnt,
+  has-reads.Asked,
+  has-reads.Learnt,
+  try-tree-below t,
+  try-tree.Post,
+) (try-spare-at t) try-spare.Post
+try-spare-element-write-mates t c = omega arith
+
+try-spare-returns : (t : ℕ) → try-spare-lts.Need-returns (
+  insert-reads.Asked,
+  insert-reads.Learnt,
+  has-reads.Asked,
+  has-reads.Learnt,
+  try-tree-below t,
+  try-tree.Post,
+) (try-spare-at t) try-spare.Post
+try-spare-returns t c =
+    let e = c .before .before .before .before .before .before .before in
+    let a = e .args in
+    let i = c .before .before .before .before .before .insert in
+    spare-goal (a .t .0) (a .s .0) (a .goal .0) (a .rows .now) (a .mates .now) (a .tree-seen .now) (a .spare-seen .now) (i .last .0) (e .pre .1 .0) (e .pre .1 .1 .mates-length) (i .ensures .1) (i .ensures .0) (c .before .if1 .taken)
+
+try-spare-mul-mate : (t : ℕ) → try-spare-lts.Need-mul-mate (
+  insert-reads.Asked,
+  insert-reads.Learnt,
+  has-reads.Asked,
+  has-reads.Learnt,
+  try-tree-below t,
+  try-tree.Post,
+) (try-spare-at t) try-spare.Post
+try-spare-mul-mate t c = omega arith
+
+try-spare-element-copy-out-mate : (t : ℕ) → try-spare-lts.Need-element-copy-out-mate (
+  insert-reads.Asked,
+  insert-reads.Learnt,
+  has-reads.Asked,
+  has-reads.Learnt,
+  try-tree-below t,
+  try-tree.Post,
+) (try-spare-at t) try-spare.Post
+try-spare-element-copy-out-mate t c = omega arith
+
+try-spare-returns-2 : (t : ℕ) → try-spare-lts.Need-returns-2 (
+  insert-reads.Asked,
+  insert-reads.Learnt,
+  has-reads.Asked,
+  has-reads.Learnt,
+  try-tree-below t,
+  try-tree.Post,
+) (try-spare-at t) try-spare.Post
+try-spare-returns-2 t c =
+    let e = c .before .before .before .before .before .before .before .before in
+    let a = e .args in
+    let i = c .before .before .before .before .before .before .insert in
+    spare-free (a .t .0) (a .s .0) (a .goal .0) (a .rows .now) (a .mates .now) (a .tree-seen .now) (a .spare-seen .now) (i .last .0) (e .pre .1 .0) (e .pre .1 .1 .mates-length) (i .ensures .1) (i .ensures .0) (c .before .before .if1 .left) (c .if2 .taken)
+
+try-spare-sub-has : (t : ℕ) → try-spare-lts.Need-sub-has (
+  insert-reads.Asked,
+  insert-reads.Learnt,
+  has-reads.Asked,
+  has-reads.Learnt,
+  try-tree-below t,
+  try-tree.Post,
+) (try-spare-at t) try-spare.Post
+try-spare-sub-has t c = omega arith
+
+try-spare-has-requires : (t : ℕ) → try-spare-lts.Need-has-requires (
+  insert-reads.Asked,
+  insert-reads.Learnt,
+  has-reads.Asked,
+  has-reads.Learnt,
+  try-tree-below t,
+  try-tree.Post,
+) (try-spare-at t) try-spare.Post
+try-spare-has-requires t c κs = omega (arith, c .before .before .before .before .before .before .before .before .before .pre .1 .1 .below (c .before .before .before .before .before .before .before .before .before .args .s .0))
+
+try-spare-returns-3 : (t : ℕ) → try-spare-lts.Need-returns-3 (
+  insert-reads.Asked,
+  insert-reads.Learnt,
+  has-reads.Asked,
+  has-reads.Learnt,
+  try-tree-below t,
+  try-tree.Post,
+) (try-spare-at t) try-spare.Post
+try-spare-returns-3 t c =
+    let e = c .before .before .before .before .before .before .before .before .before .before .before in
+    let a = e .args in
+    let i = c .before .before .before .before .before .before .before .before .before .insert in
+    spare-seen (a .t .0) (a .s .0) (a .goal .0) (a .rows .now) (a .mates .now) (a .tree-seen .now) (a .spare-seen .now) (i .last .0) (e .pre .1 .0) (e .pre .1 .1 .mates-length) (i .ensures .1) (i .ensures .0) (c .before .before .before .before .before .if1 .left) (c .before .before .before .if2 .left) (sym (c .before .has .ensures) ∙ c .if3 .taken)
+
+try-spare-add-mates-2 : (t : ℕ) → try-spare-lts.Need-add-mates-2 (
+  insert-reads.Asked,
+  insert-reads.Learnt,
+  has-reads.Asked,
+  has-reads.Learnt,
+  try-tree-below t,
+  try-tree.Post,
+) (try-spare-at t) try-spare.Post
+try-spare-add-mates-2 t c = omega (arith, c .before .before .before .before .before .before .before .before .before .before .before .before .pre .1 .1 .rank)
+
+try-spare-mul-mates-2 : (t : ℕ) → try-spare-lts.Need-mul-mates-2 (
+  insert-reads.Asked,
+  insert-reads.Learnt,
+  has-reads.Asked,
+  has-reads.Learnt,
+  try-tree-below t,
+  try-tree.Post,
+) (try-spare-at t) try-spare.Post
+try-spare-mul-mates-2 t c = omega arith
+
+try-spare-element-write-mates-2 : (t : ℕ) → try-spare-lts.Need-element-write-mates-2 (
+  insert-reads.Asked,
+  insert-reads.Learnt,
+  has-reads.Asked,
+  has-reads.Learnt,
+  try-tree-below t,
+  try-tree.Post,
+) (try-spare-at t) try-spare.Post
+try-spare-element-write-mates-2 t c = omega arith
+
+try-spare-sub-t20 : (t : ℕ) → try-spare-lts.Need-sub-t20 (
+  insert-reads.Asked,
+  insert-reads.Learnt,
+  has-reads.Asked,
+  has-reads.Learnt,
+  try-tree-below t,
+  try-tree.Post,
+) (try-spare-at t) try-spare.Post
+try-spare-sub-t20 t c = omega arith
+
+try-spare-try-tree-requires : (t : ℕ) → try-spare-lts.Need-try-tree-requires (
+  insert-reads.Asked,
+  insert-reads.Learnt,
+  has-reads.Asked,
+  has-reads.Learnt,
+  try-tree-below t,
+  try-tree.Post,
+) (try-spare-at t) try-spare.Post
+try-spare-try-tree-requires t c κs =
+    let e = c .before .before .before .before .before .before .before .before .before .before .before .before .before .before .before in
+    let a = e .args in
+    let i = c .before .before .before .before .before .before .before .before .before .before .before .before .before .insert in
+    let r = e .pre .1 .1 in
+    let l : getD (a .mates .now) (a .s .0) 0 - 1 < 64 = omega (arith, r .below (a .s .0)) in (
+      omega (arith, e .pre .0, tree-falls (getD (a .mates .now) (a .s .0) 0 - 1) (bit (a .tree-seen .now)) l (sym (c .before .before .before .before .before .has .ensures) ∙ c .before .before .before .before .if3 .left)),
+      record {
+        rank = l;
+        mates-length = length-set (a .mates .now) (a .s .0) (a .t .0 + 1) ∙ r .mates-length;
+        seen-length = i .ensures .1;
+        below = below-set 64 (a .mates .now) (a .s .0) (a .t .0 + 1) (omega (arith, e .pre .1 .0, r .mates-length)) (omega (arith, r .rank)) (r .below);
+      },
+    )
+
+try-spare-returns-4 : (t : ℕ) → try-spare-lts.Need-returns-4 (
+  insert-reads.Asked,
+  insert-reads.Learnt,
+  has-reads.Asked,
+  has-reads.Learnt,
+  try-tree-below t,
+  try-tree.Post,
+) (try-spare-at t) try-spare.Post
+try-spare-returns-4 t c =
+    let e = c .before .before .before .before .before .before .before .before .before .before .before .before .before .before .before .before .before in
+    let a = e .args in
+    let i = c .before .before .before .before .before .before .before .before .before .before .before .before .before .before .before .insert in
+    spare-led (a .t .0) (a .s .0) (a .goal .0) (a .rows .now) (a .mates .now) (a .tree-seen .now) (a .spare-seen .now) (i .last .0) (e .pre .1 .0) (e .pre .1 .1 .mates-length) (i .ensures .1) (i .ensures .0) (c .before .before .before .before .before .before .before .before .before .before .before .if1 .left) (c .before .before .before .before .before .before .before .before .before .if2 .left) (sym (c .before .before .before .before .before .before .before .has .ensures) ∙ c .before .before .before .before .before .before .if3 .left)
+    (c .before .try-tree .last .1 .1 .1 .0) (c .before .try-tree .last .1 .1 .1 .1 .0) (c .before .try-tree .last .1 .1 .1 .1 .1 .0)
+    (rw (c .if4 .taken) at (c .before .try-tree .ensures))
+
+try-spare-mul-mates-3 : (t : ℕ) → try-spare-lts.Need-mul-mates-3 (
+  insert-reads.Asked,
+  insert-reads.Learnt,
+  has-reads.Asked,
+  has-reads.Learnt,
+  try-tree-below t,
+  try-tree.Post,
+) (try-spare-at t) try-spare.Post
+try-spare-mul-mates-3 t c = omega arith
+
+try-spare-element-write-mates-3 : (t : ℕ) → try-spare-lts.Need-element-write-mates-3 (
+  insert-reads.Asked,
+  insert-reads.Learnt,
+  has-reads.Asked,
+  has-reads.Learnt,
+  try-tree-below t,
+  try-tree.Post,
+) (try-spare-at t) try-spare.Post
+try-spare-element-write-mates-3 t c = omega arith
+
+try-spare-returns-5 : (t : ℕ) → try-spare-lts.Need-returns-5 (
+  insert-reads.Asked,
+  insert-reads.Learnt,
+  has-reads.Asked,
+  has-reads.Learnt,
+  try-tree-below t,
+  try-tree.Post,
+) (try-spare-at t) try-spare.Post
+try-spare-returns-5 t c =
+    let e = c .before .before .before .before .before .before .before .before .before .before .before .before .before .before .before .before .before in
+    let a = e .args in
+    let i = c .before .before .before .before .before .before .before .before .before .before .before .before .before .before .before .insert in
+    spare-failed (a .t .0) (a .s .0) (a .goal .0) (a .rows .now) (a .mates .now) (a .tree-seen .now) (a .spare-seen .now) (i .last .0) (e .pre .1 .0) (e .pre .1 .1 .mates-length) (i .ensures .1) (i .ensures .0) (c .before .before .before .before .before .before .before .before .before .before .before .if1 .left) (c .before .before .before .before .before .before .before .before .before .if2 .left) (sym (c .before .before .before .before .before .before .before .has .ensures) ∙ c .before .before .before .before .before .before .if3 .left)
+    (c .before .try-tree .last .1 .1 .1 .0) (c .before .try-tree .last .1 .1 .1 .1 .0) (c .before .try-tree .last .1 .1 .1 .1 .1 .0)
+    (rw (c .if4 .left) at (c .before .try-tree .ensures))
+
+abbrev try-tree-Inv-loop : try-tree-lts.InvT-loop
+try-tree-Inv-loop t goal rows mates₀ tree-seen₀ spare-seen₀ mates tree-seen spare-seen =
+    Passing (t .0) (goal .0) rows mates₀ tree-seen₀ spare-seen₀ mates tree-seen spare-seen
+
+abbrev try-tree-μ-loop : try-tree-lts.MeasureT-loop
+try-tree-μ-loop t goal rows mates₀ tree-seen₀ spare-seen₀ mates tree-seen spare-seen = 256 - count 256 (member spare-seen)
+
+try-tree-with-requires : (t : ℕ) → try-tree-lts.Need-with-requires (
+  with-reads.Asked,
+  with-reads.Learnt,
+  next-reads.Asked,
+  next-reads.Learnt,
+  try-spare-below t,
+  try-spare.Post,
+) (try-tree-at t) try-tree.Post try-tree-Inv-loop try-tree-μ-loop
+try-tree-with-requires t c κs = omega arith
+
+try-tree-loop-holds : (t : ℕ) → try-tree-lts.Need-loop-holds (
+  with-reads.Asked,
+  with-reads.Learnt,
+  next-reads.Asked,
+  next-reads.Learnt,
+  try-spare-below t,
+  try-spare.Post,
+) (try-tree-at t) try-tree.Post try-tree-Inv-loop try-tree-μ-loop
+try-tree-loop-holds t c =
+    let a = c .before .before .args in
+    let r = c .before .before .pre .1 in
+    passing-start (a .t .0) (a .goal .0) (a .rows .now) (a .mates .now) (c .with .result) (a .spare-seen .now) (r .mates-length) (r .seen-length)
+
+try-tree-next-requires : (t : ℕ) → try-tree-lts.Need-next-requires (
+  with-reads.Asked,
+  with-reads.Learnt,
+  next-reads.Asked,
+  next-reads.Learnt,
+  try-spare-below t,
+  try-spare.Post,
+) (try-tree-at t) try-tree.Post try-tree-Inv-loop try-tree-μ-loop
+try-tree-next-requires t c κs = c .before .before .before .before .pre .1 .rank
+
+try-tree-returns : (t : ℕ) → try-tree-lts.Need-returns (
+  with-reads.Asked,
+  with-reads.Learnt,
+  next-reads.Asked,
+  next-reads.Learnt,
+  try-spare-below t,
+  try-spare.Post,
+) (try-tree-at t) try-tree.Post try-tree-Inv-loop try-tree-μ-loop
+try-tree-returns t c =
+    let e = c .before .before .before .before .before .before in
+    let a = e .args in
+    let w = c .before .before .before .before .with in
+    let l = c .before .before .before .loop in
+    passing-end (a .t .0) (a .goal .0) (a .rows .now) (a .mates .now) (a .tree-seen .now) (w .result) (a .spare-seen .now) (w .ensures)
+    (l .mates) (l .tree-seen) (l .spare-seen) (l .inv) (c .before .next .result) (c .before .next .ensures)
+    (c .if1 .taken)
+
+try-tree-try-spare-requires : (t : ℕ) → try-tree-lts.Need-try-spare-requires (
+  with-reads.Asked,
+  with-reads.Learnt,
+  next-reads.Asked,
+  next-reads.Learnt,
+  try-spare-below t,
+  try-spare.Post,
+) (try-tree-at t) try-tree.Post try-tree-Inv-loop try-tree-μ-loop
+try-tree-try-spare-requires t c κs =
+    let e = c .before .before .before .before .before .before .before .before .before in
+    let a = e .args in
+    let w = c .before .before .before .before .before .before .before .with in
+    let l = c .before .before .before .before .before .before .loop in (
+      omega (arith, e .pre .0, spare-falls (a .t .0) (a .goal .0) (a .rows .now) (a .mates .now) (a .tree-seen .now) (w .result) (a .spare-seen .now) (w .ensures) (l .tree-seen) (l .inv .grown)),
+      (
+        first-within 256 (λ j. inRow (a .rows .now) (a .t .0) j && not (member (l .spare-seen) j)) (c .before .before .before .before .next .result) (c .before .before .before .before .next .ensures) (c .before .before .before .if1 .left),
+        record {
+          rank = e .pre .1 .rank;
+          mates-length = l .inv .mates-length;
+          seen-length = l .inv .seen-length;
+          below = l .inv .below 64 (e .pre .1 .rank) (e .pre .1 .below);
+        },
+      ),
+    )
+
+try-tree-returns-2 : (t : ℕ) → try-tree-lts.Need-returns-2 (
+  with-reads.Asked,
+  with-reads.Learnt,
+  next-reads.Asked,
+  next-reads.Learnt,
+  try-spare-below t,
+  try-spare.Post,
+) (try-tree-at t) try-tree.Post try-tree-Inv-loop try-tree-μ-loop
+try-tree-returns-2 t c =
+    let e = c .before .before .before .before .before .before .before .before .before .before .before in
+    let a = e .args in
+    let w = c .before .before .before .before .before .before .before .before .before .with in
+    let l = c .before .before .before .before .before .before .before .before .loop in
+    passing-met (a .t .0) (a .goal .0) (a .rows .now) (a .mates .now) (a .tree-seen .now) (w .result) (a .spare-seen .now) (w .ensures)
+    (l .mates) (l .tree-seen) (l .spare-seen) (l .inv) (c .before .before .before .before .before .before .next .result) (c .before .before .before .before .before .before .next .ensures)
+    (e .pre .1 .rank) (e .pre .1 .below) (c .before .before .before .before .before .if1 .left) (c .before .try-spare .last .1 .1 .1 .1 .0) (c .before .try-spare .last .1 .1 .1 .1 .1 .0) (c .before .try-spare .last .1 .1 .1 .1 .1 .1 .0)
+    (rw (c .if2 .taken) at (c .before .try-spare .ensures))
+
+try-tree-loop-less : (t : ℕ) → try-tree-lts.Need-loop-less (
+  with-reads.Asked,
+  with-reads.Learnt,
+  next-reads.Asked,
+  next-reads.Learnt,
+  try-spare-below t,
+  try-spare.Post,
+) (try-tree-at t) try-tree.Post try-tree-Inv-loop try-tree-μ-loop
+try-tree-loop-less t c =
+    let e = c .before .before .before .before .before .before .before .before .before .before .before in
+    let a = e .args in
+    let w = c .before .before .before .before .before .before .before .before .before .with in
+    let l = c .before .before .before .before .before .before .before .before .loop in
+    passing-less (a .t .0) (a .goal .0) (a .rows .now) (a .mates .now) (a .tree-seen .now) (w .result) (a .spare-seen .now) (w .ensures)
+    (l .mates) (l .tree-seen) (l .spare-seen) (l .inv) (c .before .before .before .before .before .before .next .result) (c .before .before .before .before .before .before .next .ensures)
+    (e .pre .1 .rank) (e .pre .1 .below) (c .before .before .before .before .before .if1 .left) (c .before .try-spare .last .1 .1 .1 .1 .0) (c .before .try-spare .last .1 .1 .1 .1 .1 .0) (c .before .try-spare .last .1 .1 .1 .1 .1 .1 .0)
+    (rw (c .if2 .left) at (c .before .try-spare .ensures))
+
+try-tree-loop-again : (t : ℕ) → try-tree-lts.Need-loop-again (
+  with-reads.Asked,
+  with-reads.Learnt,
+  next-reads.Asked,
+  next-reads.Learnt,
+  try-spare-below t,
+  try-spare.Post,
+) (try-tree-at t) try-tree.Post try-tree-Inv-loop try-tree-μ-loop
+try-tree-loop-again t c =
+    let e = c .before .before .before .before .before .before .before .before .before .before .before in
+    let a = e .args in
+    let w = c .before .before .before .before .before .before .before .before .before .with in
+    let l = c .before .before .before .before .before .before .before .before .loop in
+    passing-turn (a .t .0) (a .goal .0) (a .rows .now) (a .mates .now) (a .tree-seen .now) (w .result) (a .spare-seen .now) (w .ensures)
+    (l .mates) (l .tree-seen) (l .spare-seen) (l .inv) (c .before .before .before .before .before .before .next .result) (c .before .before .before .before .before .before .next .ensures)
+    (e .pre .1 .rank) (e .pre .1 .below) (c .before .before .before .before .before .if1 .left) (c .before .try-spare .last .1 .1 .1 .1 .0) (c .before .try-spare .last .1 .1 .1 .1 .1 .0) (c .before .try-spare .last .1 .1 .1 .1 .1 .1 .0)
+    (rw (c .if2 .left) at (c .before .try-spare .ensures))
+
+pub +try-spare+try-tree-spec : {M : Type 1} → statement M
++try-spare+try-tree-spec = close μ-try-spare μ-try-tree (λ t. try-spare-lts.spec (
+  insert-reads.Asked,
+  insert-reads.Learnt,
+  has-reads.Asked,
+  has-reads.Learnt,
+  try-tree-below t,
+  try-tree.Post,
+)
+    (try-spare-at t)
+    try-spare.Post
+    (try-spare-insert-requires t)
+    (try-spare-cast-k t)
+    (try-spare-add-mates t)
+    (try-spare-mul-mates t)
+    (try-spare-element-write-mates t)
+    (try-spare-returns t)
+    (try-spare-mul-mate t)
+    (try-spare-element-copy-out-mate t)
+    (try-spare-returns-2 t)
+    (try-spare-sub-has t)
+    (try-spare-has-requires t)
+    (try-spare-returns-3 t)
+    (try-spare-add-mates-2 t)
+    (try-spare-mul-mates-2 t)
+    (try-spare-element-write-mates-2 t)
+    (try-spare-sub-t20 t)
+    (try-spare-try-tree-requires t)
+    (try-spare-returns-4 t)
+    (try-spare-mul-mates-3 t)
+    (try-spare-element-write-mates-3 t)
+    (try-spare-returns-5 t))
+    λ t. try-tree-lts.spec (
+      with-reads.Asked,
+      with-reads.Learnt,
+      next-reads.Asked,
+      next-reads.Learnt,
+      try-spare-below t,
+      try-spare.Post,
+    )
+    (try-tree-at t)
+    try-tree.Post
+    try-tree-Inv-loop
+    try-tree-μ-loop
+    (try-tree-with-requires t)
+    (try-tree-loop-holds t)
+    (try-tree-next-requires t)
+    (try-tree-returns t)
+    (try-tree-try-spare-requires t)
+    (try-tree-returns-2 t)
+    (try-tree-loop-less t)
+    (try-tree-loop-again t)

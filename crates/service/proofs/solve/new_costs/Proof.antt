@@ -1,0 +1,67 @@
+-- `service::solve::new_costs` meets its contract: the labels are placed at the links of their ranks. Assumes nothing.
+use mathlib.Core.Path.{refl, ap, _∙_}
+use native.Mathlib.Omega.{arith}
+use lib.ListN.{length}
+use Rattle.service.specs.WidenLaws.{costed}
+use Rattle.job.specs.Held.{zero-at, length-zeros}
+use borrow.Author.Needs.{needs}
+use Rattle.service.proofs.solve.new_costs.Statement.{statement}
+use Rattle.service.proofs.solve.new_costs.Tie as tie
+use Rattle.service.proofs.solve.new_costs.Reads as reads
+use Rattle.service.proofs.solve.new_costs.Lts as lts
+use Rattle.labels.proofs.label.Reads as label-reads
+use Rattle.service.proofs.solve.widen.Reads as widen-reads
+use Rattle.solution.proofs.place.Reads as place-reads
+
+-- src/solve.rt:32:26
+cast-label : tie.Need-cast-label
+cast-label c = search needs
+
+-- src/solve.rt:32:5
+label-requires : tie.Need-label-requires
+label-requires c κs =
+    let q = c .before .before .before .pre in
+    record {
+      few-trees = q .few-trees;
+      few-spares = q .few-spares;
+      tree-edges = q .tree-edges;
+      spare-edges = q .spare-edges;
+      mates-length = q .mates-length;
+      tree-length = refl;
+      spare-length = refl;
+      below = q .below;
+      no-tree = λ t. zero-at 64 t;
+      no-spare = λ s. zero-at 256 s
+    }
+
+-- src/solve.rt:34:5
+widen-requires : tie.Need-widen-requires
+widen-requires c κs = refl
+
+-- src/solve.rt:35:5
+place-requires : tie.Need-place-requires
+place-requires c κs =
+    let q = c .before .before .before .before .before .before .before .before .before .pre in
+    (record { places = q .tree-places; most = omega (arith, q .few-trees); edges = q .tree-edges }, ap length (q .empty) ∙ length-zeros 256)
+
+-- src/solve.rt:36:5
+place-requires-2 : tie.Need-place-requires-2
+place-requires-2 c κs =
+    let q = c .before .before .before .before .before .before .before .before .before .before .before .before .pre in
+    (record { places = q .spare-places; most = q .few-spares; edges = q .spare-edges }, c .before .before .place .ensures .1)
+
+-- src/solve.rt:17:1
+returns : tie.Need-returns
+returns c =
+    let p = c .before .before .before in
+    let w = p .before .before .before in
+    let l = w .before .before .before in
+    let st = l .before .before .before .before in
+    let a = st .args in
+    costed (a .trees) (a .spares) (a .cost .now) (a .ts .now) (a .ss .now) (a .rows .now) (a .mates .now) (l .label .last .1 .1 .1 .1 .1 .1 .0) (l .label .last .1 .1 .1 .1 .1 .1 .1 .0) (l .label .last .1 .1 .1 .1 .1 .1 .1 .1 .0) (w .widen .last .1 .0) (a .costs .now) (p .place .last .1 .1 .1 .0) (c .place2 .last .1 .1 .1 .0)
+    (st .pre .few-trees) (l .label .ensures) (w .widen .ensures) (st .pre .empty) (p .place .ensures .0) (c .place2 .ensures .0)
+
+pub new-costs-spec : {M : Type 1} → statement M
+new-costs-spec =
+    tie.close
+    (tie.spec cast-label label-requires widen-requires place-requires place-requires-2 returns)

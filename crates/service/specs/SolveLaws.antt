@@ -1,0 +1,116 @@
+-- The solver over arrays computes the model's answer. Assumes nothing.
+use Prim.Native.Nat.{ℕ, zero, suc, _+_, _-_, _<_, _≤_}
+use native.Mathlib.Omega.{arith}
+use mathlib.Core.Path.{_≡_, refl, sym, ap, ap₂, subst, fun-ext, _∙_}
+use mathlib.Core.Bool.{Bool, true, false, not, xor, _&&_}
+use mathlib.Core.List.{List}
+use lib.Dec.{leb, ltb, eqb}
+use lib.ListN.{length, getD, take}
+use lib.Seq.{getD-take}
+use borrow.Author.Tests.{lt-ltb, le-ltb}
+use Rattle.bits.specs.Bit.{bit}
+use Rattle.sets.specs.Sets.{inRow}
+use Rattle.graph.specs.Graph.{Graph, EdgeSet}
+use Rattle.graph.specs.Rank.{sorted, members, spareOf, treeRanks, spareRanks}
+use Rattle.graph.specs.CountLaws.{count-below}
+use Rattle.graph.specs.RankLaws.{tree-lists, spare-lists}
+use Rattle.graph.specs.Paths.{rooted, coversRank}
+use Rattle.optimum.specs.Search.{Problem, matching}
+use Rattle.optimum.specs.Lowest.{Labels, labels}
+use Rattle.optimum.specs.Solve.{problem, place, newCosts, partners}
+use Rattle.frame.specs.Job.{Job, link, graphOf, treeOf, costOf}
+use Rattle.frame.specs.Meaning.{Accepted}
+use Rattle.tree.specs.Arrays.{arrayGraph, paths}
+use Rattle.ranks.specs.Keys.{spareList}
+use Rattle.search.specs.State.{matesOf, Below, Rows}
+use Rattle.matching.specs.Progress.{costAt, Edges, Holds, Buildable, Built}
+use Rattle.solution.specs.Asked.{covers, Ends}
+use Rattle.service.specs.Accepting.{Held}
+use Rattle.service.specs.VerdictLaws.{graph-held}
+
+module _ (j : Job) (as₁ as₂ as₃ as₄ ts mask : List ℕ) (h : Held j as₁ as₂ as₃ as₄ ts mask) (a : Accepted j) where
+  abbrev g : Graph
+  g = graphOf j
+
+  abbrev tr : EdgeSet
+  tr = treeOf j
+
+  abbrev c : ℕ → ℕ
+  c = costOf j
+
+  abbrev treeList′ : List ℕ
+  treeList′ = treeRanks g tr c
+
+  abbrev spareList′ : List ℕ
+  spareList′ = spareRanks g tr c
+
+  abbrev pr : Problem
+  pr = problem g tr c
+
+  pub tree-count : length (treeRanks (graphOf j) (treeOf j) (costOf j)) ≡ j .nodes - 1
+  tree-count = omega (arith, tree-lists g tr c .size, a .tree .size)
+
+  -- The tree edges and their costs, by rank.
+  tree-at : (t : ℕ) → t < j .nodes - 1 → getD ts t 0 ≡ getD treeList′ t 0
+  tree-at t l = sym (getD-take (j .nodes - 1) ts t 0 l) ∙ ap (λ (r : List ℕ). getD r t 0) (h .ranks)
+
+  byRising : ℕ → (ℕ → ℕ) → (ℕ → ℕ) → List ℕ
+  byRising m c k = sorted (λ x y. leb (c x) (c y)) (members m (λ e. not (eqb (k e) 1)))
+
+  spares-are : (m : ℕ) → m ≡ length (j .links) → spareList m as₃ as₄ ≡ spareList′
+  unfolding byRising
+  spares-are m q = ap₂ (byRising m) (h .cost) (h .mark) ∙ ap (λ (m : ℕ). byRising m (costOf j) (λ e. link j e .mark)) q
+
+  paths-are : paths mask ≡ rooted g treeList′ .path
+  paths-are =
+      h .walked .paths (length (j .links)) ∙
+      ap₂ (λ (g : Graph) (r : List ℕ). rooted g r .path) (graph-held j as₁ as₂ as₃ as₄ ts mask h a (j .nodes) (length (j .links)) refl refl) (h .ranks)
+
+  cover-at : (e t : ℕ) → covers as₁ as₂ mask e t ≡ coversRank g (rooted g treeList′) e t
+  cover-at e t i = xor (paths-are i (h .end₁ i e) t) (paths-are i (h .end₂ i e) t)
+
+  -- The spares, ranked by the code.
+  module _ (m q : ℕ) (ss : List ℕ) (pm : m ≡ length (j .links)) (size : q ≡ length (spareList m as₃ as₄)) (ranked : take q ss ≡ spareList m as₃ as₄) where
+    ss-are : take q ss ≡ spareList′
+    ss-are = ranked ∙ spares-are m pm
+
+    ss-count : q ≡ length spareList′
+    ss-count = size ∙ ap length (spares-are m pm)
+
+    spare-at : (s : ℕ) → s < q → getD ss s 0 ≡ getD spareList′ s 0
+    spare-at s l = sym (getD-take q ss s 0 l) ∙ ap (λ (r : List ℕ). getD r s 0) ss-are
+
+    spare-edge : (s : ℕ) → s < q → getD ss s 0 < length (j .links)
+    spare-edge s l = subst (λ (e : ℕ). e < length (j .links)) (sym (spare-at s l)) (spare-lists g tr c .below s (omega (arith, ss-count)))
+
+    pub few-spares : q ≤ 256
+    few-spares = omega (arith, ss-count, spare-lists g tr c .size, count-below (length (j .links)) (spareOf g tr), a .edge-limit)
+
+    pub spare-edges : Edges q ss
+    spare-edges s l = omega (arith, spare-edge s l, a .edge-limit)
+
+    pub spare-ends : Ends q ss as₁ as₂
+    spare-ends =
+        record {
+          first = λ s l. omega (arith, ap (λ (f : ℕ → ℕ). f (getD ss s 0)) (h .end₁), a .sound .first (getD ss s 0) (spare-edge s l), a .node-limit);
+          second = λ s l. omega (arith, ap (λ (f : ℕ → ℕ). f (getD ss s 0)) (h .end₂), a .sound .second (getD ss s 0) (spare-edge s l), a .node-limit)
+        }
+
+    -- The rows hold the model's relation.
+    module _ (rows : List ℕ) (filled : (t s : ℕ) → s < 256 → inRow rows t s ≡ (ltb s q && covers as₁ as₂ mask (getD ss s 0) t)) where
+      rows-covered : (t s : ℕ) → s < q → pr .covers t s ≡ inRow rows t s
+      rows-covered t s l = sym (filled t s (omega (arith, few-spares)) ∙ rw (lt-ltb s q l) (cover-at (getD ss s 0) t ∙ ap (λ (e : ℕ). coversRank g (rooted g treeList′) e t) (spare-at s l)))
+
+      pub holds : Holds pr q as₃ ts ss rows
+      holds =
+          record {
+            spares-are = sym ss-count;
+            rows-are =
+              record {
+                few = omega (arith, few-spares, ss-count);
+                covered = λ t s lt ls. rows-covered t s (omega (arith, ss-count));
+                past = λ t s lt l b. filled t s b ∙ rw (le-ltb s q (omega (arith, ss-count)))
+              };
+            tree-cost = λ t l. ap c (sym (tree-at t (omega (arith, tree-count)))) ∙ sym (ap (λ (f : ℕ → ℕ). f (getD ts t 0)) (h .cost));
+            spare-cost = λ s l. ap c (sym (spare-at s (omega (arith, ss-count)))) ∙ sym (ap (λ (f : ℕ → ℕ). f (getD ss s 0)) (h .cost))
+          }

@@ -1,0 +1,36 @@
+-- What the functions of the solver require and give. Definitions only. Assumes nothing.
+use Prim.Native.Nat.{ℕ, _<_, _≤_}
+use mathlib.Core.Path.{_≡_}
+use mathlib.Core.List.{List}
+use lib.ListN.{length, getD, take}
+use Rattle.optimum.specs.Search.{Problem}
+use Rattle.optimum.specs.Lowest.{labels}
+use Rattle.optimum.specs.Solve.{newCosts}
+use Rattle.job.specs.Held.{zeros}
+use Rattle.search.specs.State.{matesOf, Below}
+use Rattle.matching.specs.Progress.{Edges, Holds}
+
+-- The first 64 places of one array in another of 256 places.
+pub record Widened (label wide : List ℕ) : Type 0 where
+  pub same : (k : ℕ) → k < 64 → getD wide k 0 ≡ getD label k 0
+  pub places : length wide ≡ 256
+
+-- What placing new costs needs: a matching, ranks that name edges, and an array of zeros.
+pub record Costable (trees spares : ℕ) (ts ss mates costs : List ℕ) : Type 0 where
+  pub few-trees : trees ≤ 64
+  pub few-spares : spares ≤ 256
+  pub tree-edges : Edges trees ts
+  pub spare-edges : Edges spares ss
+  pub tree-places : length ts ≡ 256
+  pub spare-places : length ss ≡ 256
+  pub mates-length : length mates ≡ 256
+  pub below : Below trees mates
+  pub empty : costs ≡ zeros 256
+
+-- What it leaves: the model's new costs by edge, and the mates as they were.
+pub record Costed (trees spares : ℕ) (cost ts ss rows mates mates′ costs : List ℕ) : Type 0 where
+  pub below : Below trees mates′
+  pub same : (p : Problem) → p .trees ≡ trees → Holds p spares cost ts ss rows → matesOf mates′ ≡ matesOf mates
+  pub new :
+      (p : Problem) → p .trees ≡ trees → Holds p spares cost ts ss rows
+      → _≡_ {A = ℕ → ℕ} (λ e. getD costs e 0) (newCosts (take trees ts) (take spares ss) (labels p (matesOf mates)))
