@@ -1,5 +1,5 @@
 -- The solver over arrays computes the model's answer. Assumes nothing.
-use Prim.Native.Nat.{ℕ, zero, suc, _+_, _-_, _<_, _≤_}
+use Prim.Native.Nat.{ℕ, zero, suc, _+_, _-_, _^_, _<_, _≤_}
 use native.Mathlib.Omega.{arith}
 use mathlib.Core.Path.{_≡_, refl, sym, ap, ap₂, subst, fun-ext, _∙_}
 use mathlib.Core.Bool.{Bool, true, false, not, xor, _&&_}
@@ -8,7 +8,7 @@ use lib.Dec.{leb, ltb, eqb}
 use lib.ListN.{length, getD, take}
 use lib.Seq.{getD-take}
 use borrow.Author.Tests.{lt-ltb, le-ltb}
-use Rattle.bits.specs.Bit.{bit}
+use Rattle.loops.specs.Loop.{sum, gather, tabulate}
 use Rattle.sets.specs.Sets.{inRow}
 use Rattle.graph.specs.Graph.{Graph, EdgeSet}
 use Rattle.graph.specs.Rank.{sorted, members, spareOf, treeRanks, spareRanks}
@@ -17,15 +17,20 @@ use Rattle.graph.specs.RankLaws.{tree-lists, spare-lists}
 use Rattle.graph.specs.Paths.{rooted, coversRank}
 use Rattle.optimum.specs.Search.{Problem, matching}
 use Rattle.optimum.specs.Lowest.{Labels, labels}
-use Rattle.optimum.specs.Solve.{problem, place, newCosts, partners}
+use Rattle.optimum.specs.Solve.{problem, newCosts, partners, pairAt, gap, solve}
+use Rattle.optimum.specs.Range.{pairs-few}
 use Rattle.frame.specs.Job.{Job, link, graphOf, treeOf, costOf}
+use Rattle.frame.specs.Answers.{answerOf}
 use Rattle.frame.specs.Meaning.{Accepted}
+use Rattle.frame.specs.OwnAnswer.{own, own-layout}
 use Rattle.tree.specs.Arrays.{arrayGraph, paths}
 use Rattle.ranks.specs.Keys.{spareList}
 use Rattle.search.specs.State.{matesOf, Below, Rows}
 use Rattle.matching.specs.Progress.{costAt, Edges, Holds, Buildable, Built}
+use Rattle.answer.specs.Contents.{costsAt, pairsOf, answerAt, Listed}
 use Rattle.solution.specs.Asked.{covers, Ends}
 use Rattle.service.specs.Accepting.{Held}
+use Rattle.service.specs.Solving.{Costed}
 use Rattle.service.specs.VerdictLaws.{graph-held}
 
 module _ (j : Job) (as₁ as₂ as₃ as₄ ts mask : List ℕ) (h : Held j as₁ as₂ as₃ as₄ ts mask) (a : Accepted j) where
@@ -114,3 +119,35 @@ module _ (j : Job) (as₁ as₂ as₃ as₄ ts mask : List ℕ) (h : Held j as�
             tree-cost = λ t l. ap c (sym (tree-at t (omega (arith, tree-count)))) ∙ sym (ap (λ (f : ℕ → ℕ). f (getD ts t 0)) (h .cost));
             spare-cost = λ s l. ap c (sym (spare-at s (omega (arith, ss-count)))) ∙ sym (ap (λ (f : ℕ → ℕ). f (getD ss s 0)) (h .cost))
           }
+
+      -- What the matching, the labels and the partners then are.
+      module _ (mates mates′ costs mate : List ℕ) (built : Built (j .nodes - 1) q as₃ ts ss rows mates) (costed : Costed (j .nodes - 1) q as₃ ts ss rows mates mates′ costs) (joined : (p : ℕ) → ((s : ℕ) → s < q → getD mates′ s 0 ≤ p) → _≡_ {A = ℕ → ℕ} (λ e. getD mate e 0) (partners (take p ts) (take q ss) (λ s. getD mates′ s 0))) where
+        mates-are : matesOf mates ≡ matching pr
+        mates-are = built .equal pr tree-count holds
+
+        new-are : _≡_ {A = ℕ → ℕ} (λ e. getD costs e 0) (newCosts treeList′ spareList′ (labels pr (matching pr)))
+        new-are = costed .new pr tree-count holds ∙ (λ i. newCosts (h .ranks i) (ss-are i) (labels pr (mates-are i)))
+
+        mate-are : _≡_ {A = ℕ → ℕ} (λ e. getD mate e 0) (partners treeList′ spareList′ (matching pr))
+        mate-are = joined (j .nodes - 1) (λ s l. costed .below s) ∙ (λ i. partners (h .ranks i) (ss-are i) ((costed .same pr tree-count holds ∙ mates-are) i))
+
+        pub steps-are : sum m (λ e. gap (getD costs e 0) (getD as₃ e 0)) ≡ answerOf j .steps
+        unfolding solve
+        steps-are i = sum (pm i) (λ e. gap (new-are i e) (h .cost i e))
+
+        pub pairs-are : pairsOf m mate ≡ answerOf j .pairs
+        unfolding solve
+        pairs-are i = gather (pm i) (λ e. pairAt e (mate-are i e))
+
+        pub costs-are : costsAt m costs ≡ answerOf j .costs
+        unfolding solve
+        costs-are i = tabulate (pm i) (new-are i)
+
+        pub few-pairs : length (pairsOf m mate) ≤ 64
+        few-pairs = omega (arith, ap length pairs-are, pairs-few (own j a), a .tree .size, a .node-limit)
+
+        pub small-steps : sum m (λ e. gap (getD costs e 0) (getD as₃ e 0)) < 128 ^ 3
+        small-steps = omega (arith, steps-are, own-layout j a .step-limit)
+
+        pub answer-is : (steps count : ℕ) (pt ps : List ℕ) → steps ≡ sum m (λ e. gap (getD costs e 0) (getD as₃ e 0)) → Listed (pairsOf m mate) count pt ps → answerAt steps m costs count pt ps ≡ answerOf j
+        answer-is steps count pt ps e l i = record { steps = (e ∙ steps-are) i; costs = costs-are i; pairs = (l .pairs ∙ pairs-are) i }

@@ -6,9 +6,14 @@ use lib.ListN.{length, getD, take}
 use Rattle.optimum.specs.Search.{Problem}
 use Rattle.optimum.specs.Lowest.{labels}
 use Rattle.optimum.specs.Solve.{newCosts}
+use Rattle.frame.specs.Job.{Job}
+use Rattle.frame.specs.Answers.{answerOf}
+use Rattle.frame.specs.Meaning.{Accepted}
+use Rattle.answer.specs.Contents.{answerAt}
 use Rattle.job.specs.Held.{zeros}
 use Rattle.search.specs.State.{matesOf, Below}
 use Rattle.matching.specs.Progress.{Edges, Holds}
+use Rattle.service.specs.Accepting.{Held}
 
 -- The first 64 places of one array in another of 256 places.
 pub record Widened (label wide : List ℕ) : Type 0 where
@@ -34,3 +39,21 @@ pub record Costed (trees spares : ℕ) (cost ts ss rows mates mates′ costs : L
   pub new :
       (p : Problem) → p .trees ≡ trees → Holds p spares cost ts ss rows
       → _≡_ {A = ℕ → ℕ} (λ e. getD costs e 0) (newCosts (take trees ts) (take spares ss) (labels p (matesOf mates)))
+
+-- What the solver needs: an accepted job in the arrays, an array of zeros for the new costs, and room for the pairs.
+pub record Solvable (nodes edges : ℕ) (as₁ as₂ as₃ as₄ ts mask costs pt ps : List ℕ) : Type 0 where
+  pub job : Job
+  pub held : Held job as₁ as₂ as₃ as₄ ts mask
+  pub accepted : Accepted job
+  pub nodes-are : nodes ≡ job .nodes
+  pub edges-are : edges ≡ length (job .links)
+  pub empty : costs ≡ zeros 256
+  pub tree-places : length pt ≡ 64
+  pub spare-places : length ps ≡ 64
+
+-- What it leaves: of every job that the arrays hold, the answer.
+pub record SolvedAs (nodes edges : ℕ) (as₁ as₂ as₃ as₄ ts mask : List ℕ) (steps count : ℕ) (costs pt ps : List ℕ) : Type 0 where
+  pub few : count ≤ 64
+  pub answer :
+      (j : Job) → Held j as₁ as₂ as₃ as₄ ts mask → Accepted j → nodes ≡ j .nodes → edges ≡ length (j .links)
+      → answerAt steps edges costs count pt ps ≡ answerOf j

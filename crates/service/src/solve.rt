@@ -1,7 +1,7 @@
 // Finds the best costs of an accepted job that is held in arrays: the matching, the lowest new costs, the pairs.
 ghost use mathlib.Core.Path.{_≡_};
 ghost use lib.ListN.{length};
-ghost use Rattle.service.specs.Solving.{Widened, Costable, Costed};
+ghost use Rattle.service.specs.Solving.{Widened, Costable, Costed, Solvable, SolvedAs};
 
 // The labels of the tree ranks, in an array as long as the others.
 fn widen(label: &[u32; 64], wide: &mut [u32; 256])
@@ -36,4 +36,45 @@ fn new_costs(
     widen(&tree_label, &mut wide);
     solution::place(ts, trees as usize, &wide, costs);
     solution::place(ss, spares, &spare_label, costs);
+}
+
+// The step count, and how many pairs are listed.
+pub struct Solved {
+    pub steps: u32,
+    pub count: usize,
+}
+
+// The answer to an accepted job in arrays: its new costs and its pairs, rising by tree link.
+pub fn solve(
+    nodes: u32,
+    edges: usize,
+    end1: &[u32; 256],
+    end2: &[u32; 256],
+    cost: &[u32; 256],
+    mark: &[u32; 256],
+    ts: &[u32; 256],
+    mask: &[u64; 64],
+    costs: &mut [u32; 256],
+    pair_tree: &mut [u32; 64],
+    pair_spare: &mut [u32; 64],
+) -> Solved
+    requires { ⌜ Solvable nodes edges (now end1) (now end2) (now cost) (now mark) (now ts) (now mask) (now costs) (now «pair_tree») (now «pair_spare») ⌝ }
+    ensures { λ r. ⌜ SolvedAs nodes edges (now (end1 .entry)) (now (end2 .entry)) (now (cost .entry)) (now (mark .entry)) (now (ts .entry)) (now (mask .entry)) (r .steps) (r .count) (now (costs .exit)) (now («pair_tree» .exit)) (now («pair_spare» .exit)) ⌝ }
+{
+    let trees = nodes - 1;
+    let mut ss = [0u32; 256];
+    let spares = ranks::spare_ranks(edges, cost, mark, &mut ss);
+    let mut rows = [0u64; 256];
+    solution::fill_rows(spares, &ss, end1, end2, mask, &mut rows);
+    let mut mates = [0u32; 256];
+    matching::build(trees, spares as u32, cost, ts, &ss, &rows, &mut mates);
+    new_costs(trees, spares, cost, ts, &ss, &rows, &mut mates, costs);
+    let mut mate = [0u32; 256];
+    solution::partners(ts, &ss, spares, &mates, &mut mate);
+    let steps = solution::steps(edges, cost, costs);
+    let count = answer::write::list_pairs(edges, &mate, pair_tree, pair_spare);
+    Solved {
+        steps: steps as u32,
+        count: count,
+    }
 }

@@ -1,0 +1,4 @@
+-- The model and the laws of reading answer frames into arrays.
+pub mod Reading
+pub mod LoadLaws
+pub mod AnswerLaws
