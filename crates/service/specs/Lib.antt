@@ -11,3 +11,5 @@ pub mod ListLaws
 pub mod Solving
 pub mod WidenLaws
 pub mod SolveLaws
+pub mod Answering
+pub mod AnswerLaws

@@ -4,3 +4,4 @@ pub mod find;
 pub mod judge;
 pub mod write;
 pub mod solve;
+pub mod reply;
