@@ -13,17 +13,18 @@ use Rattle.graph.specs.Graph.{Graph, EdgeSet}
 use Rattle.graph.specs.Paths.{rooted, judge}
 use Rattle.frame.specs.Job.{Job, link, graphOf, treeOf, costOf}
 use Rattle.frame.specs.Questions.{jobOf, refusal}
-use Rattle.frame.specs.Answers.{judgeTree}
+use Rattle.frame.specs.Answers.{judgeTree, judgeAnswer}
 use Rattle.frame.specs.Meaning.{Accepted}
 use Rattle.frame.specs.Form.{first-no}
 use Rattle.frame.specs.Accepted.{accepted}
-use Rattle.frame.specs.AnswerJudge.{tree-judged}
+use Rattle.frame.specs.AnswerJudge.{tree-judged, answer-judged}
 use Rattle.tree.specs.Arrays.{arrayGraph, arrayTree, arrayCost, paths, Ranked, Judged}
 use Rattle.tree.specs.JudgeLaws.{walked-judged}
+use Rattle.certify.specs.Judging.{Judging, JobIn}
 use Rattle.service.specs.Accepting.{Held}
 use Rattle.service.specs.declared.judge.Verdict.{Verdict}
 use Rattle.service.specs.declared.judge.Verdict.the-variants.{Yes, No, Refused}
-use Rattle.service.specs.Verdicts.{verdict, Cheapest, TreeJudged}
+use Rattle.service.specs.Verdicts.{verdict, VerdictOn, TreeJudged, AnswerJudged}
 
 -- The arrays of an accepted job are its graph, its tree and its costs.
 module _ (j : Job) (as₁ as₂ as₃ as₄ ts mask : List ℕ) (h : Held j as₁ as₂ as₃ as₄ ts mask) (a : Accepted j) (n m : ℕ) (pn : n ≡ j .nodes) (pm : m ≡ length (j .links)) where
@@ -51,6 +52,21 @@ module _ (j : Job) (as₁ as₂ as₃ as₄ ts mask : List ℕ) (h : Held j as�
       let same : count ≡ j .nodes - 1 = omega (arith, pc, pn) in
       λ i. judge (graph-held i) (tree-set-held i) (h .cost i) ((ap (λ (c : ℕ). take c ts) same ∙ h .ranks) i)
 
+  -- What the judge of answers asks of the arrays.
+  pub judging-asked : (count : ℕ) → count ≡ n - 1 → Judging m count ts as₁ as₂ mask
+  judging-asked count pc = record { judged = judge-asked count pc; few = omega (arith, pc, pn, a .node-limit) }
+
+  pub job-in : (count : ℕ) → count ≡ n - 1 → JobIn j m count ts as₁ as₂ as₃ as₄ mask
+  job-in count pc =
+      let same : j .nodes - 1 ≡ count = omega (arith, pc, pn) in
+      record {
+        graph = sym (λ i. record { nodes = j .nodes; edges = pm i; end₁ = h .end₁ i; end₂ = h .end₂ i; live = λ _. true });
+        tree = sym tree-set-held;
+        cost = sym (h .cost);
+        ranks = sym (ap (λ (c : ℕ). take c ts) (sym same) ∙ h .ranks);
+        paths = subst (λ (k : ℕ). paths mask ≡ rooted (arrayGraph (j .nodes) m as₁ as₂) (take k ts) .path) same (h .walked .paths m);
+      }
+
 -- A verdict by the definition means what it should.
 verdict-yes : (r : ℕ) (word : Bool) → (verdict r word ≡ Yes) ↔ ((r ≡ 0) × (word ≡ true))
 verdict-yes zero true = (λ e. (refl, refl), λ h. refl)
@@ -66,20 +82,27 @@ verdict-no (suc r) word = (λ e. let z : _≡_ {A = ℕ} 0 1 = cc in absurd (ome
 word-no : {P : Type 0} (word : Bool) → (word ≡ true) ↔ P → (word ≡ false) ↔ (P → ⊥)
 word-no word means = (λ n p. clash (means .1 p) n, λ q. ⊎-elim (λ y. absurd (q (means .0 y))) (λ n. n) (truth word))
 
-pub tree-judged-of : (s : List ℕ) → Bytes s → (r : Verdict) → r ≡ verdict (refusal s) (judgeTree (jobOf s)) → TreeJudged s r
-tree-judged-of s b r e =
-    record {
-      said = e;
-      first = first-no s b;
-      yes-means = (
-        λ y. let (z, w) = verdict-yes (refusal s) (judgeTree (jobOf s)) .0 (sym e ∙ y) in (z, tree-judged (jobOf s) (accepted s b z) .0 w),
-        λ h. e ∙ verdict-yes (refusal s) (judgeTree (jobOf s)) .1 (h .0, tree-judged (jobOf s) (accepted s b (h .0)) .1 (h .1)),
-      );
-      no-means = (
-        λ y. let (z, w) = verdict-no (refusal s) (judgeTree (jobOf s)) .0 (sym e ∙ y) in (z, word-no (judgeTree (jobOf s)) (tree-judged (jobOf s) (accepted s b z)) .0 w),
-        λ h. e ∙ verdict-no (refusal s) (judgeTree (jobOf s)) .1 (h .0, word-no (judgeTree (jobOf s)) (tree-judged (jobOf s) (accepted s b (h .0))) .1 (h .1)),
-      );
-    }
+module _ (s : List ℕ) (b : Bytes s) where
+  verdict-of : {P : Type 0} (word : Bool) → (refusal s ≡ 0 → (word ≡ true) ↔ P) → (r : Verdict) → r ≡ verdict (refusal s) word → VerdictOn s word P r
+  verdict-of word means r e =
+      record {
+        said = e;
+        first = first-no s b;
+        yes-means = (
+          λ y. let (z, w) = verdict-yes (refusal s) word .0 (sym e ∙ y) in (z, means z .0 w),
+          λ h. e ∙ verdict-yes (refusal s) word .1 (h .0, means (h .0) .1 (h .1)),
+        );
+        no-means = (
+          λ y. let (z, w) = verdict-no (refusal s) word .0 (sym e ∙ y) in (z, word-no word (means z) .0 w),
+          λ h. e ∙ verdict-no (refusal s) word .1 (h .0, word-no word (means (h .0)) .1 (h .1)),
+        );
+      }
+
+  pub tree-judged-of : (r : Verdict) → r ≡ verdict (refusal s) (judgeTree (jobOf s)) → TreeJudged s r
+  tree-judged-of = verdict-of (judgeTree (jobOf s)) (λ z. tree-judged (jobOf s) (accepted s b z))
+
+  pub answer-judged-of : (f : List ℕ) → Bytes f → (r : Verdict) → r ≡ verdict (refusal s) (judgeAnswer (jobOf s) f) → AnswerJudged s f r
+  answer-judged-of f q = verdict-of (judgeAnswer (jobOf s) f) (λ z. answer-judged (jobOf s) (accepted s b z) f q)
 
 -- The verdict, by the tests of the code.
 pub verdict-refused : (r n : ℕ) (word : Bool) → r ≡ n → (n ≡ 0 → ⊥) → Refused n ≡ verdict r word

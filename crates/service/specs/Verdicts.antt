@@ -6,9 +6,11 @@ use mathlib.Core.Bool.{Bool, true, false, cond}
 use mathlib.Core.List.{List}
 use lib.IntN.{pos}
 use Rattle.graph.specs.Graph.{Minimum}
+use Rattle.optimum.specs.Optimum.{Answer}
 use Rattle.frame.specs.Job.{Job, graphOf, treeOf, costOf}
 use Rattle.frame.specs.Questions.{jobOf, refusal}
-use Rattle.frame.specs.Answers.{judgeTree}
+use Rattle.frame.specs.Answers.{judgeTree, judgeAnswer}
+use Rattle.frame.specs.AnswerMeaning.{Certified}
 use Rattle.frame.specs.Meaning.{FirstNo}
 use Rattle.service.specs.declared.judge.Verdict.{Verdict}
 use Rattle.service.specs.declared.judge.Verdict.the-variants.{Yes, No, Refused}
@@ -22,10 +24,19 @@ verdict (ℕ.suc r) word = Refused (ℕ.suc r)
 abbrev pub Cheapest : Job → Type 0
 Cheapest j = Minimum (graphOf j) (treeOf j) (λ e. pos (costOf j e))
 
--- The verdict r on the frame s: a refusal is the first "no" of the six questions; of an accepted job the word is yes
--- exactly if the marked tree is cheapest, and no exactly if it is not.
-pub record TreeJudged (s : List ℕ) (r : Verdict) : Type 0 where
-  pub said : r ≡ verdict (refusal s) (judgeTree (jobOf s))
+-- The verdict r on the frame s, when a judge of accepted jobs has this word on the claim: a refusal is the first "no" of
+-- the six questions; of an accepted job the word is yes exactly if the claim holds, and no exactly if it does not.
+pub record VerdictOn (s : List ℕ) (word : Bool) (Claim : Type 0) (r : Verdict) : Type 0 where
+  pub said : r ≡ verdict (refusal s) word
   pub first : FirstNo s (refusal s)
-  pub yes-means : (r ≡ Yes) ↔ ((refusal s ≡ 0) × Cheapest (jobOf s))
-  pub no-means : (r ≡ No) ↔ ((refusal s ≡ 0) × (Cheapest (jobOf s) → ⊥))
+  pub yes-means : (r ≡ Yes) ↔ ((refusal s ≡ 0) × Claim)
+  pub no-means : (r ≡ No) ↔ ((refusal s ≡ 0) × (Claim → ⊥))
+
+-- The verdict on the marked tree of a job frame.
+abbrev pub TreeJudged : List ℕ → Verdict → Type 0
+TreeJudged s = VerdictOn s (judgeTree (jobOf s)) (Cheapest (jobOf s))
+
+-- The verdict on a frame offered as the answer to a job frame: yes exactly if it is laid out as one and its costs make the
+-- marked tree cheapest with the steps it names, which its pairing proves to be the fewest.
+abbrev pub AnswerJudged : List ℕ → List ℕ → Verdict → Type 0
+AnswerJudged s f = VerdictOn s (judgeAnswer (jobOf s) f) ((a : Answer) × Certified (jobOf s) f a)
