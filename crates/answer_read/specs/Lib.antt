@@ -2,3 +2,5 @@
 pub mod Reading
 pub mod LoadLaws
 pub mod AnswerLaws
+pub mod Costs
+pub mod CostLaws

@@ -8,7 +8,7 @@ use crate::read::number_at;
 use ids::Edge;
 
 // The position behind so many numbers.
-fn skip(s: &[u8], at: usize, count: usize) -> usize
+pub fn skip(s: &[u8], at: usize, count: usize) -> usize
     ensures { λ r. ⌜ r ≡ skipped (now (s .entry)) count at ⌝ }
 {
     let mut next = at;

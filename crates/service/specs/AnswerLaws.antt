@@ -41,9 +41,9 @@ answered-of s area b r after e =
       first = first-no s b;
       number = ⊎-map (λ q. number ∙ q) (λ q. (q .0, number ∙ q .1, q .2)) (number-of (refusal s) bytes area);
       refused = λ n.
-        let (z, same) = refused-untouched bytes 0 area (refusal s) (λ z. n (number ∙ z)) in
-        (ap (λ (o : Outcome). o .size) e ∙ z, ap (λ (o : Outcome). o .area) e ∙ same);
-      done = delivered
+          let (z, same) = refused-untouched bytes 0 area (refusal s) (λ z. n (number ∙ z)) in
+          (ap (λ (o : Outcome). o .size) e ∙ z, ap (λ (o : Outcome). o .area) e ∙ same);
+      done = delivered;
     }
   where
     bytes : List ℕ
@@ -64,5 +64,5 @@ answered-of s area b r after e =
           answer = answerOf (jobOf s);
           layout = subst (λ (f : List ℕ). AnswerOf (length (jobOf s .links)) f (answerOf (jobOf s))) (sym front) (own-layout (jobOf s) a);
           demanded = own (jobOf s) a;
-          rest = ap (drop (r .length)) now ∙ drop-at bytes (drop (0 + length bytes) area) (r .length) (sym size) ∙ ap (λ (n : ℕ). drop n area) none
+          rest = ap (drop (r .length)) now ∙ drop-at bytes (drop (0 + length bytes) area) (r .length) (sym size) ∙ ap (λ (n : ℕ). drop n area) none;
         }

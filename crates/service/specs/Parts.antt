@@ -3,10 +3,13 @@ use Prim.Native.Nat.{ℕ, _<_, _≤_}
 use mathlib.Core.Path.{_≡_}
 use mathlib.Core.Logic.{_≢_}
 use mathlib.Core.List.{List, []}
-use lib.ListN.{length}
-use Rattle.frame.specs.Job.{link, fields, bytesOf}
+use lib.ListN.{length, getD}
+use Rattle.frame.specs.Job.{link, fields, bytesOf, numberBytes}
 use Rattle.frame.specs.Questions.{jobOf, refusal}
-use Rattle.frame.specs.Services.{linkPart}
+use Rattle.frame.specs.Services.{linkPart, costPart}
+use Rattle.frame.specs.AnswerMeaning.{Certified}
+use Rattle.optimum.specs.Optimum.{Answer}
+use Rattle.leb128.specs.Number.{encode}
 
 -- The part handed back for link e of the frame s: the frame's own bytes from the link's offset on, as many as the link
 -- takes, and these are its four numbers; nothing if the frame is refused or has no such link.
@@ -15,3 +18,13 @@ pub record LinkFound (s : List ℕ) (e : ℕ) (part : List ℕ) : Type 0 where
   pub shown : refusal s ≡ 0 → e < length (jobOf s .links) → part ≡ bytesOf (fields (link (jobOf s) e))
   pub refused : refusal s ≢ 0 → part ≡ []
   pub past : refusal s ≡ 0 → length (jobOf s .links) ≤ e → part ≡ []
+
+-- The part handed back for link e's new cost in the frame f, offered as an answer to the job frame s: that frame's own bytes
+-- from the cost's offset on, as many as the cost takes, and these are the cost; nothing if the job frame is refused, has no
+-- such link, or f is no answer to it.
+pub record CostFound (s f : List ℕ) (e : ℕ) (part : List ℕ) : Type 0 where
+  pub is : part ≡ costPart s f e
+  pub shown : refusal s ≡ 0 → e < length (jobOf s .links) → (a : Answer) → Certified (jobOf s) f a → part ≡ encode numberBytes (getD (a .costs) e 0)
+  pub refused : refusal s ≢ 0 → part ≡ []
+  pub past : length (jobOf s .links) ≤ e → part ≡ []
+  pub no-answer : refusal s ≡ 0 → (((a : Answer) × Certified (jobOf s) f a) → ⊥) → part ≡ []

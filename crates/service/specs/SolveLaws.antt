@@ -98,7 +98,7 @@ module _ (j : Job) (as₁ as₂ as₃ as₄ ts mask : List ℕ) (h : Held j as�
     spare-ends =
         record {
           first = λ s l. omega (arith, ap (λ (f : ℕ → ℕ). f (getD ss s 0)) (h .end₁), a .sound .first (getD ss s 0) (spare-edge s l), a .node-limit);
-          second = λ s l. omega (arith, ap (λ (f : ℕ → ℕ). f (getD ss s 0)) (h .end₂), a .sound .second (getD ss s 0) (spare-edge s l), a .node-limit)
+          second = λ s l. omega (arith, ap (λ (f : ℕ → ℕ). f (getD ss s 0)) (h .end₂), a .sound .second (getD ss s 0) (spare-edge s l), a .node-limit);
         }
 
     -- The rows hold the model's relation.
@@ -111,13 +111,13 @@ module _ (j : Job) (as₁ as₂ as₃ as₄ ts mask : List ℕ) (h : Held j as�
           record {
             spares-are = sym ss-count;
             rows-are =
-              record {
-                few = omega (arith, few-spares, ss-count);
-                covered = λ t s lt ls. rows-covered t s (omega (arith, ss-count));
-                past = λ t s lt l b. filled t s b ∙ rw (le-ltb s q (omega (arith, ss-count)))
-              };
+                record {
+                  few = omega (arith, few-spares, ss-count);
+                  covered = λ t s lt ls. rows-covered t s (omega (arith, ss-count));
+                  past = λ t s lt l b. filled t s b ∙ rw (le-ltb s q (omega (arith, ss-count)));
+                };
             tree-cost = λ t l. ap c (sym (tree-at t (omega (arith, tree-count)))) ∙ sym (ap (λ (f : ℕ → ℕ). f (getD ts t 0)) (h .cost));
-            spare-cost = λ s l. ap c (sym (spare-at s (omega (arith, ss-count)))) ∙ sym (ap (λ (f : ℕ → ℕ). f (getD ss s 0)) (h .cost))
+            spare-cost = λ s l. ap c (sym (spare-at s (omega (arith, ss-count)))) ∙ sym (ap (λ (f : ℕ → ℕ). f (getD ss s 0)) (h .cost));
           }
 
       -- What the matching, the labels and the partners then are.

@@ -31,7 +31,7 @@ widen-turn label wide k l w =
       copied = λ i b. elim (ℕ-discrete i k) [
         | yes q ↦ rw q (getD-set-same wide k (getD label k 0) 0 (omega (arith, w .places)))
         | no q ↦ getD-set-other wide k i (getD label k 0) 0 q ∙ w .copied i (omega arith)
-      ]
+      ];
     }
 
 pub widen-end : (label wide : List ℕ) (k : ℕ) → 64 ≤ k → Widening label wide k → Widened label wide
@@ -58,11 +58,11 @@ costed trees spares cost ts ss rows mates mates′ tl sl wide costs₀ costs₁ 
       below = l .below;
       same = l .same;
       new = λ p n h.
-        let zero-start : _≡_ {A = ℕ → ℕ} (λ e. getD costs₀ e 0) (λ _. 0) = fun-ext (λ e. ap (λ (c : List ℕ). getD c e 0) z ∙ zero-at 256 e) in
-        let tree-part : _≡_ {A = ℕ → ℕ} (λ e. getD costs₁ e 0) (place (take trees ts) (labels p (matesOf mates) .treeLabel) (λ _. 0)) =
+          let zero-start : _≡_ {A = ℕ → ℕ} (λ e. getD costs₀ e 0) (λ _. 0) = fun-ext (λ e. ap (λ (c : List ℕ). getD c e 0) z ∙ zero-at 256 e) in
+          let tree-part : _≡_ {A = ℕ → ℕ} (λ e. getD costs₁ e 0) (place (take trees ts) (labels p (matesOf mates) .treeLabel) (λ _. 0)) =
           e₁ ∙ ap (place (take trees ts) (λ k. getD wide k 0)) zero-start ∙
           place-same (take trees ts) (λ k. getD wide k 0) (labels p (matesOf mates) .treeLabel) (λ _. 0)
           (λ k b. w .same k (omega (arith, few, length-take trees ts)) ∙ l .tree-labels p n h k) in
-        let spare-labels : _≡_ {A = ℕ → ℕ} (λ k. getD sl k 0) (labels p (matesOf mates) .spareLabel) = fun-ext (l .spare-labels p n h) in
-        e₂ ∙ (λ i. place (take spares ss) (spare-labels i) (tree-part i))
+          let spare-labels : _≡_ {A = ℕ → ℕ} (λ k. getD sl k 0) (labels p (matesOf mates) .spareLabel) = fun-ext (l .spare-labels p n h) in
+          e₂ ∙ (λ i. place (take spares ss) (spare-labels i) (tree-part i));
     }

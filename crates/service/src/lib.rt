@@ -2,7 +2,7 @@
 pub mod accept;
 pub mod find;
 pub mod judge;
+pub mod reply;
+pub mod solve;
 pub mod verdict;
 pub mod write;
-pub mod solve;
-pub mod reply;

@@ -14,7 +14,15 @@ pub fn answer(frame: &[u8], area: &mut [u8]) -> Reply
     let mut mark = [0u32; 256];
     let mut ts = [0u32; 256];
     let mut mask = [0u64; 64];
-    let header = accept(frame, &mut end1, &mut end2, &mut cost, &mut mark, &mut ts, &mut mask);
+    let header = accept(
+        frame,
+        &mut end1,
+        &mut end2,
+        &mut cost,
+        &mut mark,
+        &mut ts,
+        &mut mask,
+    );
     let refusal = header.refusal;
     if refusal != 0 {
         return Reply {
@@ -27,6 +35,28 @@ pub fn answer(frame: &[u8], area: &mut [u8]) -> Reply
     let mut costs = [0u32; 256];
     let mut pair_tree = [0u32; 64];
     let mut pair_spare = [0u32; 64];
-    let s = solve(nodes, edges, &end1, &end2, &cost, &mark, &ts, &mask, &mut costs, &mut pair_tree, &mut pair_spare);
-    answer::write::write_answer(0, s.steps, edges, &costs, s.count, &pair_tree, &pair_spare, area, 0)
+    let s = solve(
+        nodes,
+        edges,
+        &end1,
+        &end2,
+        &cost,
+        &mark,
+        &ts,
+        &mask,
+        &mut costs,
+        &mut pair_tree,
+        &mut pair_spare,
+    );
+    answer::write::write_answer(
+        0,
+        s.steps,
+        edges,
+        &costs,
+        s.count,
+        &pair_tree,
+        &pair_spare,
+        area,
+        0,
+    )
 }

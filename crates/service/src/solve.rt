@@ -31,7 +31,17 @@ fn new_costs(
 {
     let mut tree_label = [0u32; 64];
     let mut spare_label = [0u32; 256];
-    labels::label(trees, spares as u32, cost, ts, ss, rows, mates, &mut tree_label, &mut spare_label);
+    labels::label(
+        trees,
+        spares as u32,
+        cost,
+        ts,
+        ss,
+        rows,
+        mates,
+        &mut tree_label,
+        &mut spare_label,
+    );
     let mut wide = [0u32; 256];
     widen(&tree_label, &mut wide);
     solution::place(ts, trees as usize, &wide, costs);

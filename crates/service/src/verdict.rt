@@ -29,7 +29,15 @@ pub fn judge_answer(frame: &[u8], offered: &[u8]) -> Verdict
     let edges = header.edges as usize;
     let count = header.nodes as usize - 1;
     if certify::judge_answer(
-        offered, edges, &ts, count, &end1, &end2, &cost, &mark, &mask,
+        offered,
+        edges,
+        &ts,
+        count,
+        &end1,
+        &end2,
+        &cost,
+        &mark,
+        &mask,
     ) {
         return Verdict::Yes;
     }

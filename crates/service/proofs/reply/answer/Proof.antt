@@ -55,7 +55,7 @@ solve-requires c κs =
       edges-are = accepted-edges (a .frame .now) (t .accept .result) (t .accept .ensures .0) z;
       empty = refl;
       tree-places = refl;
-      spare-places = refl
+      spare-places = refl;
     }
 
 -- src/reply.rt:31:5

@@ -31,7 +31,7 @@ label-requires c κs =
       spare-length = refl;
       below = q .below;
       no-tree = λ t. zero-at 64 t;
-      no-spare = λ s. zero-at 256 s
+      no-spare = λ s. zero-at 256 s;
     }
 
 -- src/solve.rt:34:5

@@ -71,7 +71,7 @@ build-requires c κs =
       tree-edges = λ k l. hj .ranked .edge k (omega (arith, v .nodes-are));
       spare-edges = spare-edges j (a .end1 .now) (a .end2 .now) (a .cost .now) (a .mark .now) (a .ts .now) (a .mask .now) hj aj (a .edges) (sr .spare-ranks .result) (sr .spare-ranks .last .1 .1 .1 .0) pm (sr .spare-ranks .ensures .0) (sr .spare-ranks .ensures .1 .0);
       mates-length = refl;
-      empty = λ s. zero-at 256 s
+      empty = λ s. zero-at 256 s;
     }
 
 -- src/solve.rt:71:5
@@ -95,7 +95,7 @@ new-costs-requires c κs =
       spare-places = sr .spare-ranks .ensures .1 .1;
       mates-length = bu .build .ensures .mates-length;
       below = bu .build .ensures .below;
-      empty = v .empty
+      empty = v .empty;
     }
 
 -- src/solve.rt:73:5
@@ -110,9 +110,10 @@ partners-requires c κs =
     let hj = v .held in
     let aj = v .accepted in
     let pm = v .edges-are in
-    let below = nc .new-costs .ensures .below in
-    (record { places = sr .spare-ranks .ensures .1 .1; most = few-spares j (a .end1 .now) (a .end2 .now) (a .cost .now) (a .mark .now) (a .ts .now) (a .mask .now) hj aj (a .edges) (sr .spare-ranks .result) (sr .spare-ranks .last .1 .1 .1 .0) pm (sr .spare-ranks .ensures .0) (sr .spare-ranks .ensures .1 .0); edges = spare-edges j (a .end1 .now) (a .end2 .now) (a .cost .now) (a .mark .now) (a .ts .now) (a .mask .now) hj aj (a .edges) (sr .spare-ranks .result) (sr .spare-ranks .last .1 .1 .1 .0) pm (sr .spare-ranks .ensures .0) (sr .spare-ranks .ensures .1 .0) },
-    (record { ranks = λ s l. omega (arith, below s, v .nodes-are, aj .node-limit); edges = λ s l z. hj .ranked .edge (getD (nc .new-costs .last .1 .1 .1 .1 .1 .1 .0) s 0 - 1) (omega (arith, below s, v .nodes-are)) }, refl))
+    let below = nc .new-costs .ensures .below in (
+      record { places = sr .spare-ranks .ensures .1 .1; most = few-spares j (a .end1 .now) (a .end2 .now) (a .cost .now) (a .mark .now) (a .ts .now) (a .mask .now) hj aj (a .edges) (sr .spare-ranks .result) (sr .spare-ranks .last .1 .1 .1 .0) pm (sr .spare-ranks .ensures .0) (sr .spare-ranks .ensures .1 .0); edges = spare-edges j (a .end1 .now) (a .end2 .now) (a .cost .now) (a .mark .now) (a .ts .now) (a .mask .now) hj aj (a .edges) (sr .spare-ranks .result) (sr .spare-ranks .last .1 .1 .1 .0) pm (sr .spare-ranks .ensures .0) (sr .spare-ranks .ensures .1 .0) },
+      (record { ranks = λ s l. omega (arith, below s, v .nodes-are, aj .node-limit); edges = λ s l z. hj .ranked .edge (getD (nc .new-costs .last .1 .1 .1 .1 .1 .1 .0) s 0 - 1) (omega (arith, below s, v .nodes-are)) }, refl),
+    )
 
 -- src/solve.rt:74:9
 steps-requires : tie.Need-steps-requires
@@ -170,7 +171,7 @@ returns c =
     let a = st .args in
     record {
       few = (let v = st .pre in let j = v .job in let hj = v .held in let aj = v .accepted in let pm = v .edges-are in let pn = v .nodes-are in omega (arith, c .list-pairs .ensures .count, few-pairs j (a .end1 .now) (a .end2 .now) (a .cost .now) (a .mark .now) (a .ts .now) (a .mask .now) hj aj (a .edges) (sr .spare-ranks .result) (sr .spare-ranks .last .1 .1 .1 .0) pm (sr .spare-ranks .ensures .0) (sr .spare-ranks .ensures .1 .0) (f .fill-rows .last .1 .1 .1 .1 .1 .0) (f .fill-rows .ensures .0) (bu .build .last .1 .1 .1 .1 .1 .1 .0) (nc .new-costs .last .1 .1 .1 .1 .1 .1 .0) (nc .new-costs .last .1 .1 .1 .1 .1 .1 .1 .0) (pa .partners .last .1 .1 .1 .1 .0) (subst (λ (n : ℕ). Built (n - 1) (sr .spare-ranks .result) (a .cost .now) (a .ts .now) (sr .spare-ranks .last .1 .1 .1 .0) (f .fill-rows .last .1 .1 .1 .1 .1 .0) (bu .build .last .1 .1 .1 .1 .1 .1 .0)) pn (bu .build .ensures)) (subst (λ (n : ℕ). Costed (n - 1) (sr .spare-ranks .result) (a .cost .now) (a .ts .now) (sr .spare-ranks .last .1 .1 .1 .0) (f .fill-rows .last .1 .1 .1 .1 .1 .0) (bu .build .last .1 .1 .1 .1 .1 .1 .0) (nc .new-costs .last .1 .1 .1 .1 .1 .1 .0) (nc .new-costs .last .1 .1 .1 .1 .1 .1 .1 .0)) pn (nc .new-costs .ensures)) (pa .partners .ensures .0)));
-      answer = λ j hj aj pn pm. answer-is j (a .end1 .now) (a .end2 .now) (a .cost .now) (a .mark .now) (a .ts .now) (a .mask .now) hj aj (a .edges) (sr .spare-ranks .result) (sr .spare-ranks .last .1 .1 .1 .0) pm (sr .spare-ranks .ensures .0) (sr .spare-ranks .ensures .1 .0) (f .fill-rows .last .1 .1 .1 .1 .1 .0) (f .fill-rows .ensures .0) (bu .build .last .1 .1 .1 .1 .1 .1 .0) (nc .new-costs .last .1 .1 .1 .1 .1 .1 .0) (nc .new-costs .last .1 .1 .1 .1 .1 .1 .1 .0) (pa .partners .last .1 .1 .1 .1 .0) (subst (λ (n : ℕ). Built (n - 1) (sr .spare-ranks .result) (a .cost .now) (a .ts .now) (sr .spare-ranks .last .1 .1 .1 .0) (f .fill-rows .last .1 .1 .1 .1 .1 .0) (bu .build .last .1 .1 .1 .1 .1 .1 .0)) pn (bu .build .ensures)) (subst (λ (n : ℕ). Costed (n - 1) (sr .spare-ranks .result) (a .cost .now) (a .ts .now) (sr .spare-ranks .last .1 .1 .1 .0) (f .fill-rows .last .1 .1 .1 .1 .1 .0) (bu .build .last .1 .1 .1 .1 .1 .1 .0) (nc .new-costs .last .1 .1 .1 .1 .1 .1 .0) (nc .new-costs .last .1 .1 .1 .1 .1 .1 .1 .0)) pn (nc .new-costs .ensures)) (pa .partners .ensures .0) (t .steps .result) (c .list-pairs .result) (c .list-pairs .last .1 .1 .0) (c .list-pairs .last .1 .1 .1 .0) (t .steps .ensures) (c .list-pairs .ensures)
+      answer = λ j hj aj pn pm. answer-is j (a .end1 .now) (a .end2 .now) (a .cost .now) (a .mark .now) (a .ts .now) (a .mask .now) hj aj (a .edges) (sr .spare-ranks .result) (sr .spare-ranks .last .1 .1 .1 .0) pm (sr .spare-ranks .ensures .0) (sr .spare-ranks .ensures .1 .0) (f .fill-rows .last .1 .1 .1 .1 .1 .0) (f .fill-rows .ensures .0) (bu .build .last .1 .1 .1 .1 .1 .1 .0) (nc .new-costs .last .1 .1 .1 .1 .1 .1 .0) (nc .new-costs .last .1 .1 .1 .1 .1 .1 .1 .0) (pa .partners .last .1 .1 .1 .1 .0) (subst (λ (n : ℕ). Built (n - 1) (sr .spare-ranks .result) (a .cost .now) (a .ts .now) (sr .spare-ranks .last .1 .1 .1 .0) (f .fill-rows .last .1 .1 .1 .1 .1 .0) (bu .build .last .1 .1 .1 .1 .1 .1 .0)) pn (bu .build .ensures)) (subst (λ (n : ℕ). Costed (n - 1) (sr .spare-ranks .result) (a .cost .now) (a .ts .now) (sr .spare-ranks .last .1 .1 .1 .0) (f .fill-rows .last .1 .1 .1 .1 .1 .0) (bu .build .last .1 .1 .1 .1 .1 .1 .0) (nc .new-costs .last .1 .1 .1 .1 .1 .1 .0) (nc .new-costs .last .1 .1 .1 .1 .1 .1 .1 .0)) pn (nc .new-costs .ensures)) (pa .partners .ensures .0) (t .steps .result) (c .list-pairs .result) (c .list-pairs .last .1 .1 .0) (c .list-pairs .last .1 .1 .1 .0) (t .steps .ensures) (c .list-pairs .ensures);
     }
 
 pub solve-spec : {M : Type 1} → statement M

@@ -1,0 +1,115 @@
+-- `answer_read::find_cost` meets its contract: the part lies between the position behind the numbers before the cost and the
+-- one behind it. Assumes nothing.
+use Prim.Native.Nat.{ℕ, _-_, _≤_}
+use native.Mathlib.Omega.{arith}
+use mathlib.Core.Path.{_≡_, sym, _∙_}
+use mathlib.Core.List.{List}
+use lib.ListN.{length, take, drop, length-drop}
+use lib.Seq.{take-all}
+use borrow.Author.Needs.{needs}
+use Rattle.leb128.specs.Number.{readAt}
+use Rattle.leb128.specs.declared.Number.the-variants.{Value}
+use Rattle.frame.specs.Job.{stepBytes}
+use Rattle.answer_read.specs.AnswerLaws.{steps-within}
+use Rattle.answer_read.specs.CostLaws.{steps-found, cost-order, cost-within, cost-part}
+use Rattle.answer_read.proofs.find_cost.Statement.{statement}
+use Rattle.answer_read.proofs.find_cost.Tie as tie
+
+-- the frame, the link, the steps and the part behind them
+abbrev frame-of : tie.After-steps → List ℕ
+frame-of f = f .before .before .before .before .args .frame .now
+
+abbrev edge-of : tie.After-steps → ℕ
+edge-of f = f .before .before .before .before .args .edge
+
+abbrev value-of : tie.After-steps → ℕ
+value-of f = f .steps .given .0 .0
+
+abbrev behind-of : tie.After-steps → ℕ
+behind-of f = f .steps .given .0 .1 .0
+
+abbrev part-of : tie.After-steps → List ℕ
+part-of f = take (length (frame-of f) - behind-of f) (drop (behind-of f) (frame-of f))
+
+part-is : (f : tie.After-steps) → part-of f ≡ drop (behind-of f) (frame-of f)
+part-is f = take-all (length (frame-of f) - behind-of f) (drop (behind-of f) (frame-of f)) (omega (arith, length-drop (behind-of f) (frame-of f)))
+
+steps : (f : tie.After-steps) → readAt stepBytes (frame-of f) 0 ≡ Value (value-of f) (behind-of f)
+steps f = sym (f .before .before .read .ensures) ∙ f .steps .given .1
+
+abbrev steps-of : tie.After-skip2 → tie.After-steps
+steps-of c = c .before .before .before .before
+
+read-requires : tie.Need-read-requires
+read-requires c κs = search needs
+
+enum-known-steps : tie.Need-enum-known-steps
+enum-known-steps c = search needs
+
+enum-told : tie.Need-enum-told
+enum-told c = search needs
+
+sub-result : tie.Need-sub-result
+sub-result c = search needs
+
+part-result-start : tie.Need-part-result-start
+part-result-start c = search needs
+
+part-result-end : tie.Need-part-result-end
+part-result-end c = search needs
+
+returns : tie.Need-returns
+returns c k = absurd (steps-found _ _ k (sym (c .before .before .before .read .ensures) ∙ c .before .enum-told .given .1))
+
+sub-part : tie.Need-sub-part
+sub-part c = steps-within _ _ _ (steps (c .before))
+
+part-part-start : tie.Need-part-part-start
+part-part-start c = steps-within _ _ _ (steps (c .before))
+
+part-part-end : tie.Need-part-part-end
+part-part-end c = search needs
+
+skip-requires : tie.Need-skip-requires
+skip-requires c κs = search needs
+
+skip-requires-2 : tie.Need-skip-requires-2
+skip-requires-2 c κs = search needs
+
+order : (c : tie.After-skip2) → c .before .skip .result ≤ c .skip2 .result
+order c = cost-order (frame-of (steps-of c)) (edge-of (steps-of c)) (steps-of c .before .before .before .before .pre) (value-of (steps-of c)) (behind-of (steps-of c)) (steps (steps-of c)) (part-of (steps-of c)) (part-is (steps-of c)) (c .before .skip .result) (c .skip2 .result) (c .before .skip .ensures) (c .skip2 .ensures)
+
+sub-result-2 : tie.Need-sub-result-2
+sub-result-2 c = order c
+
+part-result-start-2 : tie.Need-part-result-start-2
+part-result-start-2 c = order c
+
+part-result-end-2 : tie.Need-part-result-end-2
+part-result-end-2 c = cost-within (frame-of (steps-of c)) (edge-of (steps-of c)) (steps-of c .before .before .before .before .pre) (value-of (steps-of c)) (behind-of (steps-of c)) (steps (steps-of c)) (part-of (steps-of c)) (part-is (steps-of c)) (c .before .skip .result) (c .skip2 .result) (c .before .skip .ensures) (c .skip2 .ensures)
+
+returns-2 : tie.Need-returns-2
+returns-2 r k =
+    let c = r .before in
+    cost-part (frame-of (steps-of c)) (edge-of (steps-of c)) k (value-of (steps-of c)) (behind-of (steps-of c)) (steps (steps-of c)) (part-of (steps-of c)) (part-is (steps-of c)) (c .before .skip .result) (c .skip2 .result) (c .before .skip .ensures) (c .skip2 .ensures)
+
+pub find-cost-spec : {M : Type 1} → statement M
+find-cost-spec =
+    tie.close
+    (tie.spec
+    read-requires
+    enum-known-steps
+    enum-told
+    sub-result
+    part-result-start
+    part-result-end
+    returns
+    sub-part
+    part-part-start
+    part-part-end
+    skip-requires
+    skip-requires-2
+    sub-result-2
+    part-result-start-2
+    part-result-end-2
+    returns-2)
