@@ -5,7 +5,6 @@ use native.Mathlib.Omega.{arith}
 use borrow.Author.Needs.{needs}
 use Rattle.settle.proofs.print_links.Statement.{statement}
 use Rattle.settle.proofs.print_links.Tie as tie
-use Rattle.settle.proofs.print_link.Reads as print-link-reads
 
 abbrev Inv-loop : tie.InvT-loop
 Inv-loop frame area edges at₀ e₀ at e = e ≤ edges

@@ -5,7 +5,6 @@ use native.Mathlib.Omega.{arith}
 use borrow.Author.Needs.{needs}
 use Rattle.settle.proofs.print_pairs.Statement.{statement}
 use Rattle.settle.proofs.print_pairs.Tie as tie
-use Rattle.settle.proofs.print_pair.Reads as print-pair-reads
 
 abbrev Inv-loop : tie.InvT-loop
 Inv-loop area pairs count at₀ counter₀ at counter = counter ≤ count

@@ -10,9 +10,6 @@ use Rattle.job.specs.declared.read.Taken.{Taken}
 use Rattle.job.specs.Finding.{step, skipped}
 use Rattle.job.proofs.find.skip.Statement.{statement}
 use Rattle.job.proofs.find.skip.Tie as tie
-use Rattle.job.proofs.find.skip.Reads as reads
-use Rattle.job.proofs.find.skip.Lts as lts
-use Rattle.job.proofs.read.number_at.Reads as number-at-reads
 
 abbrev Inv-loop : tie.InvT-loop
 Inv-loop s at count next₀ i₀ next i = (i ≤ count) × (scan (step s) (count - i) i next ≡ skipped s count at)
@@ -20,30 +17,24 @@ Inv-loop s at count next₀ i₀ next i = (i ≤ count) × (scan (step s) (count
 abbrev μ-loop : tie.MeasureT-loop
 μ-loop s at count next₀ i₀ next i = count - i
 
--- src/find.rt:17:5
 loop-holds : tie.Need-loop-holds Inv-loop μ-loop
 loop-holds c = (omega arith, scan-start _ _ _)
 
--- src/find.rt:18:13
 number-at-requires : tie.Need-number-at-requires Inv-loop μ-loop
 number-at-requires c κs = search needs
 
--- src/find.rt:20:9
 add-i : tie.Need-add-i Inv-loop μ-loop
 add-i c = omega arith
 
--- src/find.rt:17:5
 loop-less : tie.Need-loop-less Inv-loop μ-loop
 loop-less c = omega arith
 
--- src/find.rt:17:5
 loop-again : tie.Need-loop-again Inv-loop μ-loop
 loop-again c =
     let l = c .before .before in
     let a = l .before .before .args in
     (omega arith, ap (scan (step (a .s .now)) (a .count - (l .loop .i + 1)) (l .loop .i + 1)) (ap (λ (t : Taken). t .next) (c .number-at .ensures)) ∙ sym (scan-turn (step (a .s .now)) (a .count) (l .loop .i) (l .loop .next) (c .before .loop-test .taken)) ∙ l .loop .inv .1)
 
--- src/find.rt:12:1
 returns : tie.Need-returns Inv-loop μ-loop
 returns c = sym (scan-end _ _ _ _ (c .loop-test .left)) ∙ c .before .loop .inv .1
 

@@ -10,9 +10,6 @@ use Rattle.job.specs.Reading.{countFrom}
 use Rattle.job.specs.ReadingLaws.{Counting, count-start, count-turn, count-refused, count-end, read-further}
 use Rattle.job.proofs.read.count_numbers.Statement.{statement}
 use Rattle.job.proofs.read.count_numbers.Tie as tie
-use Rattle.job.proofs.read.count_numbers.Reads as reads
-use Rattle.job.proofs.read.count_numbers.Lts as lts
-use Rattle.leb128.proofs.read.Reads as read-reads
 
 abbrev Inv-loop : tie.InvT-loop
 Inv-loop frame at₀ count₀ at count = Counting frame at count (countFrom 0 (numbers frame))
@@ -20,23 +17,18 @@ Inv-loop frame at₀ count₀ at count = Counting frame at count (countFrom 0 (n
 abbrev μ-loop : tie.MeasureT-loop
 μ-loop frame at₀ count₀ at count = length frame - at
 
--- src/read.rt:37:5
 loop-holds : tie.Need-loop-holds Inv-loop μ-loop
 loop-holds c = count-start _
 
--- src/read.rt:38:13
 read-requires : tie.Need-read-requires Inv-loop μ-loop
 read-requires c κs = search needs
 
--- src/read.rt:39:30
 enum-known-n : tie.Need-enum-known-n Inv-loop μ-loop
 enum-known-n c = c .match .keys1
 
--- src/read.rt:40:13
 enum-told : tie.Need-enum-told Inv-loop μ-loop
 enum-told c = c .match .keys2
 
--- src/read.rt:40:13
 returns : tie.Need-returns Inv-loop μ-loop
 returns c =
     let r = c .before .before in
@@ -63,7 +55,6 @@ loop-less c =
 loop-again : tie.Need-loop-again Inv-loop μ-loop
 loop-again c = turned c
 
--- src/read.rt:32:1
 returns-2 : tie.Need-returns-2 Inv-loop μ-loop
 returns-2 c = count-end _ _ _ _ (c .before .loop .inv) (c .loop-test .left)
 

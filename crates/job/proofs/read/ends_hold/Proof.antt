@@ -10,8 +10,6 @@ use Rattle.job.specs.Reading.{endsApart, endsHold}
 use Rattle.job.specs.ReadingLaws.{apart-first, apart-second, apart-same, apart-holds}
 use Rattle.job.proofs.read.ends_hold.Statement.{statement}
 use Rattle.job.proofs.read.ends_hold.Tie as tie
-use Rattle.job.proofs.read.ends_hold.Reads as reads
-use Rattle.job.proofs.read.ends_hold.Lts as lts
 
 abbrev Inv-loop : tie.InvT-loop
 Inv-loop nodes edges end1 end2 e₀ e = (e ≤ edges) × (endsHold nodes e end1 end2 ≡ true)
@@ -19,28 +17,22 @@ Inv-loop nodes edges end1 end2 e₀ e = (e ≤ edges) × (endsHold nodes e end1 
 abbrev μ-loop : tie.MeasureT-loop
 μ-loop nodes edges end1 end2 e₀ e = edges - e
 
--- src/read.rt:90:5
 loop-holds : tie.Need-loop-holds Inv-loop μ-loop
 unfolding allBelow
 loop-holds c = (omega arith, refl)
 
--- src/read.rt:91:17
 mul-a : tie.Need-mul-a Inv-loop μ-loop
 mul-a c = omega arith
 
--- src/read.rt:91:17
 element-copy-out-a : tie.Need-element-copy-out-a Inv-loop μ-loop
 element-copy-out-a c = omega arith
 
--- src/read.rt:92:17
 mul-b : tie.Need-mul-b Inv-loop μ-loop
 mul-b c = omega arith
 
--- src/read.rt:92:17
 element-copy-out-b : tie.Need-element-copy-out-b Inv-loop μ-loop
 element-copy-out-b c = omega arith
 
--- src/read.rt:94:13
 returns : tie.Need-returns Inv-loop μ-loop
 returns c =
     let k = c .before .before .before in
@@ -49,7 +41,6 @@ returns c =
     sym (all-miss (a .edges) (λ e. endsApart (a .nodes) (getD (a .end1 .now) e 0) (getD (a .end2 .now) e 0)) (l .loop .e) (k .loop-test .taken)
     (apart-first (a .nodes) _ _ (c .if1 .taken)))
 
--- src/read.rt:97:13
 returns-2 : tie.Need-returns-2 Inv-loop μ-loop
 returns-2 c =
     let f = c .before in
@@ -59,7 +50,6 @@ returns-2 c =
     sym (all-miss (a .edges) (λ e. endsApart (a .nodes) (getD (a .end1 .now) e 0) (getD (a .end2 .now) e 0)) (l .loop .e) (k .loop-test .taken)
     (apart-second (a .nodes) _ _ (f .if1 .left) (c .if2 .taken)))
 
--- src/read.rt:100:13
 returns-3 : tie.Need-returns-3 Inv-loop μ-loop
 returns-3 c =
     let f = c .before .before in
@@ -69,15 +59,12 @@ returns-3 c =
     sym (all-miss (a .edges) (λ e. endsApart (a .nodes) (getD (a .end1 .now) e 0) (getD (a .end2 .now) e 0)) (l .loop .e) (k .loop-test .taken)
     (apart-same (a .nodes) _ _ (f .if1 .left) (c .before .if2 .left) (c .if3 .taken)))
 
--- src/read.rt:102:9
 add-e : tie.Need-add-e Inv-loop μ-loop
 add-e c = omega arith
 
--- src/read.rt:90:5
 loop-less : tie.Need-loop-less Inv-loop μ-loop
 loop-less c = omega arith
 
--- src/read.rt:90:5
 loop-again : tie.Need-loop-again Inv-loop μ-loop
 loop-again c =
     let f = c .before .before in
@@ -89,7 +76,6 @@ loop-again c =
           (apart-holds (a .nodes) _ _ (f .if1 .left) (c .before .if2 .left) (c .if3 .left)),
     )
 
--- src/read.rt:85:1
 returns-4 : tie.Need-returns-4 Inv-loop μ-loop
 returns-4 c =
     let a = c .before .before .args in

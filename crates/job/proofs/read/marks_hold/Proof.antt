@@ -11,8 +11,6 @@ use borrow.Author.Tests.{le-leb, lt-leb}
 use Rattle.job.specs.Reading.{marksHold}
 use Rattle.job.proofs.read.marks_hold.Statement.{statement}
 use Rattle.job.proofs.read.marks_hold.Tie as tie
-use Rattle.job.proofs.read.marks_hold.Reads as reads
-use Rattle.job.proofs.read.marks_hold.Lts as lts
 
 abbrev Inv-loop : tie.InvT-loop
 Inv-loop edges mark e₀ e = (e ≤ edges) × (marksHold e mark ≡ true)
@@ -20,20 +18,16 @@ Inv-loop edges mark e₀ e = (e ≤ edges) × (marksHold e mark ≡ true)
 abbrev μ-loop : tie.MeasureT-loop
 μ-loop edges mark e₀ e = edges - e
 
--- src/read.rt:113:5
 loop-holds : tie.Need-loop-holds Inv-loop μ-loop
 unfolding allBelow
 loop-holds c = (omega arith, refl)
 
--- src/read.rt:114:17
 mul-m : tie.Need-mul-m Inv-loop μ-loop
 mul-m c = omega arith
 
--- src/read.rt:114:17
 element-copy-out-m : tie.Need-element-copy-out-m Inv-loop μ-loop
 element-copy-out-m c = omega arith
 
--- src/read.rt:116:13
 returns : tie.Need-returns Inv-loop μ-loop
 returns c =
     let k = c .before .before in
@@ -41,15 +35,12 @@ returns c =
     let a = l .before .args in
     sym (all-miss (a .edges) (λ e. leb (getD (a .mark .now) e 0) 1) (l .loop .e) (k .loop-test .taken) (lt-leb _ 1 (c .if1 .taken)))
 
--- src/read.rt:118:9
 add-e : tie.Need-add-e Inv-loop μ-loop
 add-e c = omega arith
 
--- src/read.rt:113:5
 loop-less : tie.Need-loop-less Inv-loop μ-loop
 loop-less c = omega arith
 
--- src/read.rt:113:5
 loop-again : tie.Need-loop-again Inv-loop μ-loop
 loop-again c =
     let k = c .before .before in
@@ -57,7 +48,6 @@ loop-again c =
     let a = l .before .args in
     (omega arith, all-more (l .loop .e) (λ e. leb (getD (a .mark .now) e 0) 1) (l .loop .inv .1) (le-leb _ 1 (c .if1 .left)))
 
--- src/read.rt:108:1
 returns-2 : tie.Need-returns-2 Inv-loop μ-loop
 returns-2 c =
     let a = c .before .before .args in

@@ -4,30 +4,22 @@ use Rattle.job.specs.ReadingLaws.{taken-value, taken-refused}
 use borrow.Author.Needs.{needs}
 use Rattle.job.proofs.read.number_at.Statement.{statement}
 use Rattle.job.proofs.read.number_at.Tie as tie
-use Rattle.job.proofs.read.number_at.Reads as reads
-use Rattle.job.proofs.read.number_at.Lts as lts
-use Rattle.leb128.proofs.read.Reads as read-reads
 
--- src/read.rt:24:9
 read-requires : tie.Need-read-requires
 read-requires c κs = search needs
 
--- src/read.rt:26:23
 enum-known-n : tie.Need-enum-known-n
 enum-known-n c = search needs
 
--- src/read.rt:27:28
 enum-told : tie.Need-enum-told
 enum-told c = search needs
 
--- src/read.rt:21:1
 returns : tie.Need-returns
 returns c =
     let a = c .before .before .before .before .before .args in
     let n = c .before .n .given in
     sym (taken-value (a .s .now) (a .at) (n .0 .0) (n .0 .1 .0) (sym (c .before .before .before .read .ensures) ∙ n .1))
 
--- src/read.rt:21:1
 returns-2 : tie.Need-returns-2
 returns-2 c =
     let a = c .before .before .before .before .args in

@@ -13,13 +13,6 @@ use Rattle.job.specs.Reading.{Loaded, arrays, filled, endsHold, marksHol
 use Rattle.job.specs.FormLaws.{Passed, counts-passed, counts-refused, links-read, ends-read, marks-read, ends-refused, marks-refused, form-passed}
 use Rattle.job.proofs.read.read_job.Statement.{statement}
 use Rattle.job.proofs.read.read_job.Tie as tie
-use Rattle.job.proofs.read.read_job.Reads as reads
-use Rattle.job.proofs.read.read_job.Lts as lts
-use Rattle.job.proofs.read.ends_hold.Reads as ends-hold-reads
-use Rattle.job.proofs.read.marks_hold.Reads as marks-hold-reads
-use Rattle.job.proofs.read.read_counts.Reads as read-counts-reads
-use Rattle.job.proofs.read.read_links.Reads as read-links-reads
-use Rattle.job.proofs.read.refused.Reads as refused-reads
 
 -- questions 1 to 3 have passed
 passing : (k : tie.Else1) → Passed (k .before .before .before .args .frame .now) (k .before .read-counts .result)
@@ -72,50 +65,39 @@ marks-answer k =
 refused-nonzero : (n : ℕ) (h : Header) → h ≡ record { refusal = suc n; nodes = 0; edges = 0 } → h .refusal ≡ 0 → ⊥
 refused-nonzero n h e z = omega (arith, ap (λ (r : Header). r .refusal) e, z)
 
--- src/read.rt:207:9
 read-counts-requires : tie.Need-read-counts-requires
 read-counts-requires c κs = search needs
 
--- src/read.rt:210:9
 refused-requires : tie.Need-refused-requires
 refused-requires c κs = search needs
 
--- src/read.rt:210:9
 returns : tie.Need-returns
 returns c =
     let k = c .before .before in
     let h = counts-refused (k .before .before .args .frame .now) (k .read-counts .result) (k .read-counts .ensures) (c .before .if1 .taken) in
     (c .refused .ensures ∙ h, λ z. absurd (c .before .if1 .taken (sym (ap (λ (r : Header). r .refusal) (c .refused .ensures)) ∙ z)))
 
--- src/read.rt:213:16
 sub-part : tie.Need-sub-part
 sub-part c = passing c .within
 
--- src/read.rt:213:16
 part-part-start : tie.Need-part-part-start
 part-part-start c = passing c .within
 
--- src/read.rt:213:16
 part-part-end : tie.Need-part-part-end
 part-part-end c = search needs
 
--- src/read.rt:215:17
 cast-edges : tie.Need-cast-edges
 cast-edges c = search needs
 
--- src/read.rt:216:5
 read-links-requires : tie.Need-read-links-requires
 read-links-requires c κs = passing (c .before .before .before .before .before .before) .limit
 
--- src/read.rt:217:9
 ends-hold-requires : tie.Need-ends-hold-requires
 ends-hold-requires c κs = passing (c .before .before .before .before .before .before .before .before .before) .limit
 
--- src/read.rt:218:9
 refused-requires-2 : tie.Need-refused-requires-2
 refused-requires-2 c κs = search needs
 
--- src/read.rt:218:9
 returns-2 : tie.Need-returns-2
 returns-2 c =
     let k = c .before .before in
@@ -123,15 +105,12 @@ returns-2 c =
     let no : k .ends-hold .result ≡ false = not-true _ (c .before .if2 .taken) in
     (c .refused2 .ensures ∙ ends-refused (e .before .before .before .args .frame .now) (e .before .read-counts .result) (passing e) (sym (ends-answer k) ∙ no), λ z. absurd (refused-nonzero 3 (c .refused2 .result) (c .refused2 .ensures) z))
 
--- src/read.rt:220:9
 marks-hold-requires : tie.Need-marks-hold-requires
 marks-hold-requires c κs = passing (c .before .before .before .before .before .before .before .before .before .before .before .before) .limit
 
--- src/read.rt:221:9
 refused-requires-3 : tie.Need-refused-requires-3
 refused-requires-3 c κs = search needs
 
--- src/read.rt:221:9
 returns-3 : tie.Need-returns-3
 returns-3 c =
     let m = c .before .before in
@@ -141,7 +120,6 @@ returns-3 c =
     let no : m .marks-hold .result ≡ false = not-true _ (c .before .if3 .taken) in
     (c .refused3 .ensures ∙ marks-refused (e .before .before .before .args .frame .now) (e .before .read-counts .result) (passing e) (sym (ends-answer k) ∙ yes) (sym (marks-answer m) ∙ no), λ z. absurd (refused-nonzero 4 (c .refused3 .result) (c .refused3 .ensures) z))
 
--- src/read.rt:193:1
 returns-4 : tie.Need-returns-4
 returns-4 c =
     let m = c .before in

@@ -10,9 +10,6 @@ use Rattle.job.specs.Reading.{loadLink, arrays, loadLinks}
 use Rattle.job.specs.ReadingLaws.{load-turn}
 use Rattle.job.proofs.read.read_links.Statement.{statement}
 use Rattle.job.proofs.read.read_links.Tie as tie
-use Rattle.job.proofs.read.read_links.Reads as reads
-use Rattle.job.proofs.read.read_links.Lts as lts
-use Rattle.job.proofs.read.number_at.Reads as number-at-reads
 
 abbrev Inv-loop : tie.InvT-loop
 Inv-loop part edges end1₀ end2₀ cost₀ mark₀ at₀ e₀ end1 end2 cost mark at e =
@@ -21,67 +18,51 @@ Inv-loop part edges end1₀ end2₀ cost₀ mark₀ at₀ e₀ end1 end2 cost ma
 abbrev μ-loop : tie.MeasureT-loop
 μ-loop part edges end1₀ end2₀ cost₀ mark₀ at₀ e₀ end1 end2 cost mark at e = edges - e
 
--- src/read.rt:69:5
 loop-holds : tie.Need-loop-holds Inv-loop μ-loop
 loop-holds c = (omega arith, scan-start _ _ _)
 
--- src/read.rt:70:13
 number-at-requires : tie.Need-number-at-requires Inv-loop μ-loop
 number-at-requires c κs = search needs
 
--- src/read.rt:71:13
 number-at-requires-2 : tie.Need-number-at-requires-2 Inv-loop μ-loop
 number-at-requires-2 c κs = search needs
 
--- src/read.rt:72:13
 number-at-requires-3 : tie.Need-number-at-requires-3 Inv-loop μ-loop
 number-at-requires-3 c κs = search needs
 
--- src/read.rt:73:13
 number-at-requires-4 : tie.Need-number-at-requires-4 Inv-loop μ-loop
 number-at-requires-4 c κs = search needs
 
--- src/read.rt:74:9
 mul-end1 : tie.Need-mul-end1 Inv-loop μ-loop
 mul-end1 c = omega arith
 
--- src/read.rt:74:9
 element-write-end1 : tie.Need-element-write-end1 Inv-loop μ-loop
 element-write-end1 c = omega arith
 
--- src/read.rt:75:9
 mul-end2 : tie.Need-mul-end2 Inv-loop μ-loop
 mul-end2 c = omega arith
 
--- src/read.rt:75:9
 element-write-end2 : tie.Need-element-write-end2 Inv-loop μ-loop
 element-write-end2 c = omega arith
 
--- src/read.rt:76:9
 mul-cost : tie.Need-mul-cost Inv-loop μ-loop
 mul-cost c = omega arith
 
--- src/read.rt:76:9
 element-write-cost : tie.Need-element-write-cost Inv-loop μ-loop
 element-write-cost c = omega arith
 
--- src/read.rt:77:9
 mul-mark : tie.Need-mul-mark Inv-loop μ-loop
 mul-mark c = omega arith
 
--- src/read.rt:77:9
 element-write-mark : tie.Need-element-write-mark Inv-loop μ-loop
 element-write-mark c = omega arith
 
--- src/read.rt:79:9
 add-e : tie.Need-add-e Inv-loop μ-loop
 add-e c = omega arith
 
--- src/read.rt:69:5
 loop-less : tie.Need-loop-less Inv-loop μ-loop
 loop-less c = omega arith
 
--- src/read.rt:69:5
 loop-again : tie.Need-loop-again Inv-loop μ-loop
 loop-again c =
     let k = c .before .before .before in
@@ -92,7 +73,6 @@ loop-again c =
           (k .number-at .ensures) (c .before .before .number-at2 .ensures) (c .before .number-at3 .ensures) (c .number-at4 .ensures),
     )
 
--- src/read.rt:53:1
 returns : tie.Need-returns Inv-loop μ-loop
 returns c = sym (scan-end _ _ _ _ (c .loop-test .left)) ∙ c .before .loop .inv .1
 

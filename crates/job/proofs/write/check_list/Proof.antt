@@ -8,12 +8,6 @@ use Rattle.job.specs.ListLaws.{check-large-nodes, check-large-edges, che
 use borrow.Author.Needs.{needs}
 use Rattle.job.proofs.write.check_list.Statement.{statement}
 use Rattle.job.proofs.write.check_list.Tie as tie
-use Rattle.job.proofs.write.check_list.Reads as reads
-use Rattle.job.proofs.write.check_list.Lts as lts
-use Rattle.job.proofs.read.ends_hold.Reads as ends-hold-reads
-use Rattle.job.proofs.read.marks_hold.Reads as marks-hold-reads
-use Rattle.job.proofs.write.held.Reads as held-reads
-use Rattle.job.proofs.write.links_small.Reads as links-small-reads
 
 -- question 1 of the links held
 small-answer :
@@ -24,79 +18,66 @@ small-answer k =
     let a = k .before .before .before .before .args in
     k .links-small .ensures ∙ ap (λ (n : ℕ). linksSmall n (a .end1 .now) (a .end2 .now) (a .cost .now) (a .mark .now)) (k .before .held .ensures)
 
--- src/write.rt:139:9
 returns : tie.Need-returns
 returns c =
     let t = c .before in
     let a = t .args in
     sym (check-large-nodes (a .nodes) (a .edges) (a .end1 .now) (a .end2 .now) (a .cost .now) (a .mark .now) (t .pre) (c .if1 .taken))
 
--- src/write.rt:142:9
 returns-2 : tie.Need-returns-2
 returns-2 c =
     let t = c .before .before in
     let a = t .args in
     sym (check-large-edges (a .nodes) (a .edges) (a .end1 .now) (a .end2 .now) (a .cost .now) (a .mark .now) (t .pre) (c .before .if1 .left) (c .if2 .taken))
 
--- src/write.rt:144:9
 held-requires : tie.Need-held-requires
 held-requires c κs = search needs
 
--- src/write.rt:145:9
 links-small-requires : tie.Need-links-small-requires
 links-small-requires c κs = search needs
 
--- src/write.rt:146:9
 returns-3 : tie.Need-returns-3
 returns-3 c =
     let t = c .before .before .before .before .before in
     let a = t .args in
     sym (check-large (a .nodes) (a .edges) (a .end1 .now) (a .end2 .now) (a .cost .now) (a .mark .now) (t .pre) (c .before .before .before .before .if1 .left) (c .before .before .before .if2 .left) (sym (small-answer (c .before)) ∙ not-true _ (c .if3 .taken)))
 
--- src/write.rt:149:9
 returns-4 : tie.Need-returns-4
 returns-4 c =
     let t = c .before .before .before .before .before .before in
     let a = t .args in
     sym (check-empty (a .nodes) (a .edges) (a .end1 .now) (a .end2 .now) (a .cost .now) (a .mark .now) (t .pre) (sym (small-answer (c .before .before)) ∙ not-false _ (c .before .if3 .left)) (c .before .before .before .before .before .if1 .left) (c .before .before .before .before .if2 .left) (c .if4 .taken))
 
--- src/write.rt:152:9
 returns-5 : tie.Need-returns-5
 returns-5 c =
     let t = c .before .before .before .before .before .before .before in
     let a = t .args in
     sym (check-nodes (a .nodes) (a .edges) (a .end1 .now) (a .end2 .now) (a .cost .now) (a .mark .now) (t .pre) (sym (small-answer (c .before .before .before)) ∙ not-false _ (c .before .before .if3 .left)) (c .before .before .before .before .before .before .if1 .left) (c .before .before .before .before .before .if2 .left) (c .before .if4 .left) (c .if5 .taken))
 
--- src/write.rt:155:9
 returns-6 : tie.Need-returns-6
 returns-6 c =
     let t = c .before .before .before .before .before .before .before .before in
     let a = t .args in
     sym (check-edges (a .nodes) (a .edges) (a .end1 .now) (a .end2 .now) (a .cost .now) (a .mark .now) (t .pre) (sym (small-answer (c .before .before .before .before)) ∙ not-false _ (c .before .before .before .if3 .left)) (c .before .before .before .before .before .before .before .if1 .left) (c .before .before .before .before .before .before .if2 .left) (c .before .before .if4 .left) (c .before .if5 .left) (c .if6 .taken))
 
--- src/write.rt:157:9
 ends-hold-requires : tie.Need-ends-hold-requires
 ends-hold-requires c κs = search needs
 
--- src/write.rt:158:9
 returns-7 : tie.Need-returns-7
 returns-7 c =
     let t = c .before .before .before .before .before .before .before .before .before .before in
     let a = t .args in
     sym (check-ends (a .nodes) (a .edges) (a .end1 .now) (a .end2 .now) (a .cost .now) (a .mark .now) (t .pre) (sym (small-answer (c .before .before .before .before .before .before)) ∙ not-false _ (c .before .before .before .before .before .if3 .left)) (c .before .before .before .before .before .before .before .before .before .if1 .left) (c .before .before .before .before .before .before .before .before .if2 .left) (c .before .before .before .before .if4 .left) (c .before .before .before .if5 .left) (c .before .before .if6 .left) (sym (c .before .ends-hold .ensures) ∙ not-true _ (c .if7 .taken)))
 
--- src/write.rt:160:9
 marks-hold-requires : tie.Need-marks-hold-requires
 marks-hold-requires c κs = search needs
 
--- src/write.rt:161:9
 returns-8 : tie.Need-returns-8
 returns-8 c =
     let t = c .before .before .before .before .before .before .before .before .before .before .before .before in
     let a = t .args in
     sym (check-marks (a .nodes) (a .edges) (a .end1 .now) (a .end2 .now) (a .cost .now) (a .mark .now) (t .pre) (sym (small-answer (c .before .before .before .before .before .before .before .before)) ∙ not-false _ (c .before .before .before .before .before .before .before .if3 .left)) (c .before .before .before .before .before .before .before .before .before .before .before .if1 .left) (c .before .before .before .before .before .before .before .before .before .before .if2 .left) (c .before .before .before .before .before .before .if4 .left) (c .before .before .before .before .before .if5 .left) (c .before .before .before .before .if6 .left) (sym (c .before .before .before .ends-hold .ensures) ∙ not-false _ (c .before .before .if7 .left)) (sym (c .before .marks-hold .ensures) ∙ not-true _ (c .if8 .taken)))
 
--- src/write.rt:125:1
 returns-9 : tie.Need-returns-9
 returns-9 c =
     let t = c .before .before .before .before .before .before .before .before .before .before .before .before in

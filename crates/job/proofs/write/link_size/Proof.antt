@@ -5,43 +5,32 @@ use Rattle.job.specs.WritingLaws.{length-link}
 use borrow.Author.Needs.{needs}
 use Rattle.job.proofs.write.link_size.Statement.{statement}
 use Rattle.job.proofs.write.link_size.Tie as tie
-use Rattle.job.proofs.write.link_size.Reads as reads
-use Rattle.job.proofs.write.link_size.Lts as lts
-use Rattle.leb128.proofs.size.Reads as size-reads
 
--- src/write.rt:12:5
 size-requires : tie.Need-size-requires
 size-requires c κs = search needs
 
--- src/write.rt:12:26
 size-requires-2 : tie.Need-size-requires-2
 size-requires-2 c κs = search needs
 
--- src/write.rt:12:5
 add-result : tie.Need-add-result
 add-result c = omega (arith, c .before .size .ensures, c .size2 .ensures, encode-size-most 2 (c .before .before .args .a), encode-size-most 2 (c .before .before .args .b))
 
--- src/write.rt:12:47
 size-requires-3 : tie.Need-size-requires-3
 size-requires-3 c κs = search needs
 
--- src/write.rt:12:5
 add-result-2 : tie.Need-add-result-2
 add-result-2 c =
     let a = c .before .before .before .args in
     omega (arith, c .before .before .size .ensures, c .before .size2 .ensures, c .size3 .ensures, encode-size-most 2 (a .a), encode-size-most 2 (a .b), encode-size-most 2 (a .c))
 
--- src/write.rt:12:68
 size-requires-4 : tie.Need-size-requires-4
 size-requires-4 c κs = search needs
 
--- src/write.rt:12:5
 add-result-3 : tie.Need-add-result-3
 add-result-3 c =
     let a = c .before .before .before .before .args in
     omega (arith, c .before .before .before .size .ensures, c .before .before .size2 .ensures, c .before .size3 .ensures, c .size4 .ensures, encode-size-most 2 (a .a), encode-size-most 2 (a .b), encode-size-most 2 (a .c), encode-size-most 2 (a .m))
 
--- src/write.rt:9:1
 returns : tie.Need-returns
 returns c =
     let a = c .before .before .before .before .args in

@@ -10,9 +10,6 @@ use Rattle.job.specs.Writing.{linksBytes}
 use Rattle.job.specs.WritingLaws.{length-more, links-short}
 use Rattle.job.proofs.write.links_size.Statement.{statement}
 use Rattle.job.proofs.write.links_size.Tie as tie
-use Rattle.job.proofs.write.links_size.Reads as reads
-use Rattle.job.proofs.write.links_size.Lts as lts
-use Rattle.job.proofs.write.link_size.Reads as link-size-reads
 
 abbrev Inv-loop : tie.InvT-loop
 Inv-loop edges end1 end2 cost mark size₀ e₀ size e = (e ≤ edges) × (size ≡ length (linksBytes e end1 end2 cost mark))
@@ -20,70 +17,55 @@ Inv-loop edges end1 end2 cost mark size₀ e₀ size e = (e ≤ edges) × (size 
 abbrev μ-loop : tie.MeasureT-loop
 μ-loop edges end1 end2 cost mark size₀ e₀ size e = edges - e
 
--- src/write.rt:43:5
 loop-holds : tie.Need-loop-holds Inv-loop μ-loop
 unfolding gather flatMap
 loop-holds c = (omega arith, refl)
 
--- src/write.rt:44:27
 mul-link-size : tie.Need-mul-link-size Inv-loop μ-loop
 mul-link-size c = omega arith
 
--- src/write.rt:44:27
 element-copy-out-link-size : tie.Need-element-copy-out-link-size Inv-loop μ-loop
 element-copy-out-link-size c = omega arith
 
--- src/write.rt:44:36
 mul-link-size-2 : tie.Need-mul-link-size-2 Inv-loop μ-loop
 mul-link-size-2 c = omega arith
 
--- src/write.rt:44:36
 element-copy-out-link-size-2 : tie.Need-element-copy-out-link-size-2 Inv-loop μ-loop
 element-copy-out-link-size-2 c = omega arith
 
--- src/write.rt:44:45
 mul-link-size-3 : tie.Need-mul-link-size-3 Inv-loop μ-loop
 mul-link-size-3 c = omega arith
 
--- src/write.rt:44:45
 element-copy-out-link-size-3 : tie.Need-element-copy-out-link-size-3 Inv-loop μ-loop
 element-copy-out-link-size-3 c = omega arith
 
--- src/write.rt:44:54
 mul-link-size-4 : tie.Need-mul-link-size-4 Inv-loop μ-loop
 mul-link-size-4 c = omega arith
 
--- src/write.rt:44:54
 element-copy-out-link-size-4 : tie.Need-element-copy-out-link-size-4 Inv-loop μ-loop
 element-copy-out-link-size-4 c = omega arith
 
--- src/write.rt:44:17
 link-size-requires : tie.Need-link-size-requires Inv-loop μ-loop
 link-size-requires c κs = search needs
 
--- src/write.rt:44:9
 add-size : tie.Need-add-size Inv-loop μ-loop
 add-size c =
     let l = c .before .before .before .before .before .before in
     let a = l .before .args in
     omega (arith, c .link-size .ensures, length-more (a .end1 .now) (a .end2 .now) (a .cost .now) (a .mark .now) (l .loop .e), links-short (a .end1 .now) (a .end2 .now) (a .cost .now) (a .mark .now) (l .loop .e + 1))
 
--- src/write.rt:45:9
 add-e : tie.Need-add-e Inv-loop μ-loop
 add-e c = omega arith
 
--- src/write.rt:43:5
 loop-less : tie.Need-loop-less Inv-loop μ-loop
 loop-less c = omega arith
 
--- src/write.rt:43:5
 loop-again : tie.Need-loop-again Inv-loop μ-loop
 loop-again c =
     let l = c .before .before .before .before .before .before in
     let a = l .before .args in
     (omega arith, omega (arith, c .link-size .ensures, length-more (a .end1 .now) (a .end2 .now) (a .cost .now) (a .mark .now) (l .loop .e)))
 
--- src/write.rt:28:1
 returns : tie.Need-returns Inv-loop μ-loop
 returns c =
     let l = c .before in

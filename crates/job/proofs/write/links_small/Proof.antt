@@ -12,8 +12,6 @@ use Rattle.job.specs.Writing.{linksSmall}
 use Rattle.job.specs.WritingLaws.{large-first, large-second, large-cost, large-mark, small-holds}
 use Rattle.job.proofs.write.links_small.Statement.{statement}
 use Rattle.job.proofs.write.links_small.Tie as tie
-use Rattle.job.proofs.write.links_small.Reads as reads
-use Rattle.job.proofs.write.links_small.Lts as lts
 
 abbrev Inv-loop : tie.InvT-loop
 Inv-loop edges end1 end2 cost mark e₀ e = (e ≤ edges) × (linksSmall e end1 end2 cost mark ≡ true)
@@ -21,20 +19,16 @@ Inv-loop edges end1 end2 cost mark e₀ e = (e ≤ edges) × (linksSmall e end1 
 abbrev μ-loop : tie.MeasureT-loop
 μ-loop edges end1 end2 cost mark e₀ e = edges - e
 
--- src/write.rt:91:5
 loop-holds : tie.Need-loop-holds Inv-loop μ-loop
 unfolding allBelow
 loop-holds c = (omega arith, refl)
 
--- src/write.rt:92:20
 mul-if1 : tie.Need-mul-if1 Inv-loop μ-loop
 mul-if1 c = omega arith
 
--- src/write.rt:92:20
 element-copy-out-if1 : tie.Need-element-copy-out-if1 Inv-loop μ-loop
 element-copy-out-if1 c = omega arith
 
--- src/write.rt:93:13
 returns : tie.Need-returns Inv-loop μ-loop
 returns c =
     let l = c .before .before .before in
@@ -42,15 +36,12 @@ returns c =
     sym (all-miss (a .edges) (λ e. smallEdge (record { end₁ = getD (a .end1 .now) e 0; end₂ = getD (a .end2 .now) e 0; cost = getD (a .cost .now) e 0; mark = getD (a .mark .now) e 0 })) (l .loop .e) (c .before .before .loop-test .taken)
     (large-first (getD (a .end1 .now) (l .loop .e) 0) (getD (a .end2 .now) (l .loop .e) 0) (getD (a .cost .now) (l .loop .e) 0) (getD (a .mark .now) (l .loop .e) 0) (c .if1 .taken)))
 
--- src/write.rt:95:20
 mul-if2 : tie.Need-mul-if2 Inv-loop μ-loop
 mul-if2 c = omega arith
 
--- src/write.rt:95:20
 element-copy-out-if2 : tie.Need-element-copy-out-if2 Inv-loop μ-loop
 element-copy-out-if2 c = omega arith
 
--- src/write.rt:96:13
 returns-2 : tie.Need-returns-2 Inv-loop μ-loop
 returns-2 c =
     let l = c .before .before .before .before .before in
@@ -58,15 +49,12 @@ returns-2 c =
     sym (all-miss (a .edges) (λ e. smallEdge (record { end₁ = getD (a .end1 .now) e 0; end₂ = getD (a .end2 .now) e 0; cost = getD (a .cost .now) e 0; mark = getD (a .mark .now) e 0 })) (l .loop .e) (c .before .before .before .before .loop-test .taken)
     (large-second (getD (a .end1 .now) (l .loop .e) 0) (getD (a .end2 .now) (l .loop .e) 0) (getD (a .cost .now) (l .loop .e) 0) (getD (a .mark .now) (l .loop .e) 0) (c .before .before .if1 .left) (c .if2 .taken)))
 
--- src/write.rt:98:20
 mul-if3 : tie.Need-mul-if3 Inv-loop μ-loop
 mul-if3 c = omega arith
 
--- src/write.rt:98:20
 element-copy-out-if3 : tie.Need-element-copy-out-if3 Inv-loop μ-loop
 element-copy-out-if3 c = omega arith
 
--- src/write.rt:99:13
 returns-3 : tie.Need-returns-3 Inv-loop μ-loop
 returns-3 c =
     let l = c .before .before .before .before .before .before .before in
@@ -74,15 +62,12 @@ returns-3 c =
     sym (all-miss (a .edges) (λ e. smallEdge (record { end₁ = getD (a .end1 .now) e 0; end₂ = getD (a .end2 .now) e 0; cost = getD (a .cost .now) e 0; mark = getD (a .mark .now) e 0 })) (l .loop .e) (c .before .before .before .before .before .before .loop-test .taken)
     (large-cost (getD (a .end1 .now) (l .loop .e) 0) (getD (a .end2 .now) (l .loop .e) 0) (getD (a .cost .now) (l .loop .e) 0) (getD (a .mark .now) (l .loop .e) 0) (c .before .before .before .before .if1 .left) (c .before .before .if2 .left) (c .if3 .taken)))
 
--- src/write.rt:101:20
 mul-if4 : tie.Need-mul-if4 Inv-loop μ-loop
 mul-if4 c = omega arith
 
--- src/write.rt:101:20
 element-copy-out-if4 : tie.Need-element-copy-out-if4 Inv-loop μ-loop
 element-copy-out-if4 c = omega arith
 
--- src/write.rt:102:13
 returns-4 : tie.Need-returns-4 Inv-loop μ-loop
 returns-4 c =
     let l = c .before .before .before .before .before .before .before .before .before in
@@ -90,15 +75,12 @@ returns-4 c =
     sym (all-miss (a .edges) (λ e. smallEdge (record { end₁ = getD (a .end1 .now) e 0; end₂ = getD (a .end2 .now) e 0; cost = getD (a .cost .now) e 0; mark = getD (a .mark .now) e 0 })) (l .loop .e) (c .before .before .before .before .before .before .before .before .loop-test .taken)
     (large-mark (getD (a .end1 .now) (l .loop .e) 0) (getD (a .end2 .now) (l .loop .e) 0) (getD (a .cost .now) (l .loop .e) 0) (getD (a .mark .now) (l .loop .e) 0) (c .before .before .before .before .before .before .if1 .left) (c .before .before .before .before .if2 .left) (c .before .before .if3 .left) (c .if4 .taken)))
 
--- src/write.rt:104:9
 add-e : tie.Need-add-e Inv-loop μ-loop
 add-e c = omega arith
 
--- src/write.rt:91:5
 loop-less : tie.Need-loop-less Inv-loop μ-loop
 loop-less c = omega arith
 
--- src/write.rt:91:5
 loop-again : tie.Need-loop-again Inv-loop μ-loop
 loop-again c =
     let l = c .before .before .before .before .before .before .before .before .before in
@@ -108,7 +90,6 @@ loop-again c =
           (small-holds (getD (a .end1 .now) (l .loop .e) 0) (getD (a .end2 .now) (l .loop .e) 0) (getD (a .cost .now) (l .loop .e) 0) (getD (a .mark .now) (l .loop .e) 0) (c .before .before .before .before .before .before .if1 .left) (c .before .before .before .before .if2 .left) (c .before .before .if3 .left) (c .if4 .left)),
     )
 
--- src/write.rt:78:1
 returns-5 : tie.Need-returns-5 Inv-loop μ-loop
 returns-5 c =
     let l = c .before in

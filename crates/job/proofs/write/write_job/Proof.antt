@@ -14,12 +14,6 @@ use Rattle.job.specs.WritingLaws.{put-more, put-room, job-bytes, job-siz
 use borrow.Author.Needs.{needs}
 use Rattle.job.proofs.write.write_job.Statement.{statement}
 use Rattle.job.proofs.write.write_job.Tie as tie
-use Rattle.job.proofs.write.write_job.Reads as reads
-use Rattle.job.proofs.write.write_job.Lts as lts
-use Rattle.job.proofs.write.links_size.Reads as links-size-reads
-use Rattle.job.proofs.write.write_links.Reads as write-links-reads
-use Rattle.leb128.proofs.size.Reads as size-reads
-use Rattle.leb128.proofs.write.Reads as write-reads
 
 -- the size is the frame's
 sized :
@@ -37,63 +31,50 @@ put1 k = record { next = k .write .ensures .0; area = k .write .ensures .1 }
 put2 : (k : tie.After-write2) → let a = k .before .before .before .before .before .before .before .before .before .before .before .before .before .args in Put (a .area .now) (a .at) (encode 2 (a .nodes) ++ encode 2 (a .edges)) (k .write2 .result) (k .write2 .last .0)
 put2 k = put-more _ _ _ _ _ _ _ _ (put1 (k .before .before .before .before)) (k .write2 .ensures .0) (k .write2 .ensures .1)
 
--- src/write.rt:191:9
 returns : tie.Need-returns
 returns c =
     let a = c .before .before .args in
     written-refused (a .refusal) _ (a .at) (a .area .now) (c .if1 .taken)
 
--- src/write.rt:196:17
 cast-count : tie.Need-cast-count
 cast-count c = omega (arith, c .before .before .pre (c .if1 .left))
 
--- src/write.rt:197:16
 size-requires : tie.Need-size-requires
 size-requires c κs = search needs
 
--- src/write.rt:197:41
 size-requires-2 : tie.Need-size-requires-2
 size-requires-2 c κs = search needs
 
--- src/write.rt:197:16
 add-size : tie.Need-add-size
 add-size c = omega (arith, c .before .size .ensures, c .size2 .ensures, encode-size-most 2 (c .before .before .before .before .args .nodes), encode-size-most 2 (c .before .before .before .before .args .edges))
 
--- src/write.rt:197:66
 links-size-requires : tie.Need-links-size-requires
 links-size-requires c κs = c .before .before .before .before .pre (c .before .before .if1 .left)
 
--- src/write.rt:197:16
 add-size-2 : tie.Need-add-size-2
 add-size-2 c = omega (arith, c .links-size .ensures .1, c .before .before .size .ensures, c .before .size2 .ensures, encode-size-most 2 (c .before .before .before .before .before .args .nodes), encode-size-most 2 (c .before .before .before .before .before .args .edges))
 
--- src/write.rt:199:9
 returns-2 : tie.Need-returns-2
 returns-2 c =
     let a = c .before .before .before .before .before .before .args in
     written-short (a .refusal) _ (a .at) (a .area .now) (c .before .before .before .before .if1 .left) (omega arith)
 
--- src/write.rt:201:8
 sub-if3 : tie.Need-sub-if3
 sub-if3 c = search needs
 
--- src/write.rt:202:9
 returns-3 : tie.Need-returns-3
 returns-3 c =
     let a = c .before .before .before .before .before .before .before .args in
     written-short (a .refusal) (jobFrame (jobAt (a .nodes) (a .edges) (a .end1 .now) (a .end2 .now) (a .cost .now) (a .mark .now))) (a .at) (a .area .now) (c .before .before .before .before .before .if1 .left) (omega (arith, sized (c .before .before)))
 
--- src/write.rt:204:9
 write-requires : tie.Need-write-requires
 write-requires c κs = omega (arith, c .before .before .before .links-size .ensures, c .before .before .before .before .size2 .ensures, c .before .before .before .before .before .size .ensures)
 
--- src/write.rt:205:9
 write-requires-2 : tie.Need-write-requires-2
 write-requires-2 c κs =
     let k = c .before .before .before in
     put-room _ _ _ _ _ _ (put1 k) (omega (arith, k .before .before .if3 .left, k .before .before .before .if2 .left, k .before .before .before .before .links-size .ensures .0, k .before .before .before .before .before .size2 .ensures, k .before .before .before .before .before .before .size .ensures))
 
--- src/write.rt:206:5
 write-links-requires : tie.Need-write-links-requires
 write-links-requires c κs =
     let k = c .before .before .before in
@@ -101,11 +82,9 @@ write-links-requires c κs =
     let a = w .before .before .before .before .before .before .before .before .before .args in
     (w .before .before .before .before .before .before .before .before .before .pre (w .before .before .before .before .before .before .before .if1 .left), put-room _ _ _ _ _ _ (put2 k) (omega (arith, length-append (encode 2 (a .nodes)) (encode 2 (a .edges)), w .before .before .if3 .left, w .before .before .before .if2 .left, w .before .before .before .before .links-size .ensures .0, w .before .before .before .before .before .size2 .ensures, w .before .before .before .before .before .before .size .ensures)))
 
--- src/write.rt:173:1
 same-length : tie.Need-same-length
 same-length c = search needs
 
--- src/write.rt:173:1
 returns-4 : tie.Need-returns-4
 returns-4 c =
     let l = c .before .before in

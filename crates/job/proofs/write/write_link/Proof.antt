@@ -11,9 +11,6 @@ use Rattle.job.specs.WritingLaws.{put-more, put-room, link-bytes-left, l
 use borrow.Author.Needs.{needs}
 use Rattle.job.proofs.write.write_link.Statement.{statement}
 use Rattle.job.proofs.write.write_link.Tie as tie
-use Rattle.job.proofs.write.write_link.Reads as reads
-use Rattle.job.proofs.write.write_link.Lts as lts
-use Rattle.leb128.proofs.write.Reads as write-reads
 
 -- the numbers put so far
 put1 : (k : tie.After-write) → let a = k .before .before .before .args in Put (a .area .now) (a .at) (encode 2 (a .a)) (k .write .result) (k .write .last .0)
@@ -28,33 +25,27 @@ put3 k = put-more _ _ _ _ _ _ _ _ (put2 (k .before .before .before .before)) (k 
 put4 : (k : tie.After-write4) → let a = k .before .before .before .before .before .before .before .before .before .before .before .before .before .before .before .args in Put (a .area .now) (a .at) (encode 2 (a .a) ++ encode 2 (a .b) ++ encode 2 (a .c) ++ encode 2 (a .m)) (k .write4 .result) (k .write4 .last .0)
 put4 k = put-more _ _ _ _ _ _ _ _ (put3 (k .before .before .before .before)) (k .write4 .ensures .0) (k .write4 .ensures .1)
 
--- src/write.rt:21:9
 write-requires : tie.Need-write-requires
 write-requires c κs = omega (arith, length-link (c .before .before .args .a) (c .before .before .args .b) (c .before .before .args .c) (c .before .before .args .m))
 
--- src/write.rt:22:9
 write-requires-2 : tie.Need-write-requires-2
 write-requires-2 c κs =
     let a = c .before .before .before .before .before .before .args in
     put-room _ _ _ _ _ _ (put1 (c .before .before .before)) (omega (arith, c .before .before .before .before .before .before .pre, length-link (a .a) (a .b) (a .c) (a .m)))
 
--- src/write.rt:23:9
 write-requires-3 : tie.Need-write-requires-3
 write-requires-3 c κs =
     let a = c .before .before .before .before .before .before .before .before .before .before .args in
     put-room _ _ _ _ _ _ (put2 (c .before .before .before)) (simp length-append (omega (arith, c .before .before .before .before .before .before .before .before .before .before .pre, length-link (a .a) (a .b) (a .c) (a .m))))
 
--- src/write.rt:24:5
 write-requires-4 : tie.Need-write-requires-4
 write-requires-4 c κs =
     let a = c .before .before .before .before .before .before .before .before .before .before .before .before .before .before .args in
     put-room _ _ _ _ _ _ (put3 (c .before .before .before)) (simp length-append (omega (arith, c .before .before .before .before .before .before .before .before .before .before .before .before .before .before .pre, length-link (a .a) (a .b) (a .c) (a .m))))
 
--- src/write.rt:16:1
 same-length : tie.Need-same-length
 same-length c = search needs
 
--- src/write.rt:16:1
 returns : tie.Need-returns
 returns c =
     let k = c .before .before in

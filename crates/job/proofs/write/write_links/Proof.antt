@@ -11,9 +11,6 @@ use Rattle.job.specs.Writing.{linksBytes, Put}
 use Rattle.job.specs.WritingLaws.{put-more, put-room, links-more, length-more, links-within}
 use Rattle.job.proofs.write.write_links.Statement.{statement}
 use Rattle.job.proofs.write.write_links.Tie as tie
-use Rattle.job.proofs.write.write_links.Reads as reads
-use Rattle.job.proofs.write.write_links.Lts as lts
-use Rattle.job.proofs.write.write_link.Reads as write-link-reads
 
 abbrev Inv-loop : tie.InvT-loop
 Inv-loop area₀ at edges end1 end2 cost mark next₀ e₀ area next e =
@@ -22,44 +19,34 @@ Inv-loop area₀ at edges end1 end2 cost mark next₀ e₀ area next e =
 abbrev μ-loop : tie.MeasureT-loop
 μ-loop area₀ at edges end1 end2 cost mark next₀ e₀ area next e = edges - e
 
--- src/write.rt:70:5
 loop-holds : tie.Need-loop-holds Inv-loop μ-loop
 unfolding gather flatMap
 loop-holds c = (omega arith, record { next = omega arith; area = refl })
 
--- src/write.rt:71:39
 mul-write-link : tie.Need-mul-write-link Inv-loop μ-loop
 mul-write-link c = omega arith
 
--- src/write.rt:71:39
 element-copy-out-write-link : tie.Need-element-copy-out-write-link Inv-loop μ-loop
 element-copy-out-write-link c = omega arith
 
--- src/write.rt:71:48
 mul-write-link-2 : tie.Need-mul-write-link-2 Inv-loop μ-loop
 mul-write-link-2 c = omega arith
 
--- src/write.rt:71:48
 element-copy-out-write-link-2 : tie.Need-element-copy-out-write-link-2 Inv-loop μ-loop
 element-copy-out-write-link-2 c = omega arith
 
--- src/write.rt:71:57
 mul-write-link-3 : tie.Need-mul-write-link-3 Inv-loop μ-loop
 mul-write-link-3 c = omega arith
 
--- src/write.rt:71:57
 element-copy-out-write-link-3 : tie.Need-element-copy-out-write-link-3 Inv-loop μ-loop
 element-copy-out-write-link-3 c = omega arith
 
--- src/write.rt:71:66
 mul-write-link-4 : tie.Need-mul-write-link-4 Inv-loop μ-loop
 mul-write-link-4 c = omega arith
 
--- src/write.rt:71:66
 element-copy-out-write-link-4 : tie.Need-element-copy-out-write-link-4 Inv-loop μ-loop
 element-copy-out-write-link-4 c = omega arith
 
--- src/write.rt:71:9
 write-link-requires : tie.Need-write-link-requires Inv-loop μ-loop
 write-link-requires c κs =
     let l = c .before .before .before .before .before .before in
@@ -71,15 +58,12 @@ write-link-requires c κs =
     put-room _ _ _ _ _ _ (l .loop .inv .1)
     (omega (arith, l .before .before .pre .1, length-more s₁ s₂ s₃ s₄ (l .loop .e), links-within s₁ s₂ s₃ s₄ (l .loop .e + 1) (a .edges) (omega arith)))
 
--- src/write.rt:72:9
 add-e : tie.Need-add-e Inv-loop μ-loop
 add-e c = omega arith
 
--- src/write.rt:70:5
 loop-less : tie.Need-loop-less Inv-loop μ-loop
 loop-less c = omega arith
 
--- src/write.rt:70:5
 loop-again : tie.Need-loop-again Inv-loop μ-loop
 loop-again c =
     let w = c .before .before in
@@ -90,11 +74,9 @@ loop-again c =
           (put-more _ _ _ _ _ _ _ _ (l .loop .inv .1) (w .write-link .ensures .0) (w .write-link .ensures .1)),
     )
 
--- src/write.rt:51:1
 same-length : tie.Need-same-length Inv-loop μ-loop
 same-length c = ap length (c .before .loop .inv .1 .area) ∙ simp length-sets
 
--- src/write.rt:51:1
 returns : tie.Need-returns Inv-loop μ-loop
 returns c =
     let l = c .before in

@@ -13,12 +13,6 @@ use Rattle.service.specs.ArrayLaws.{Stored, stored, empty-places, count-
 use borrow.Author.Needs.{needs}
 use Rattle.service.proofs.accept.accept.Statement.{statement}
 use Rattle.service.proofs.accept.accept.Tie as tie
-use Rattle.service.proofs.accept.accept.Reads as reads
-use Rattle.service.proofs.accept.accept.Lts as lts
-use Rattle.job.proofs.read.read_job.Reads as read-job-reads
-use Rattle.ranks.proofs.tree_ranks.Reads as tree-ranks-reads
-use Rattle.service.proofs.accept.refused6.Reads as refused6-reads
-use Rattle.tree.proofs.question6.Reads as question6-reads
 
 six-nonzero : (h : Header) → h ≡ record { refusal = 6; nodes = 0; edges = 0 } → h .refusal ≡ 0 → ⊥
 six-nonzero h e z = omega (arith, ap (λ (h : Header). h .refusal) e, z)
@@ -49,22 +43,18 @@ kept k =
     let l = k .before .read-job .last .1 in
     stored (a .frame .now) (a .end1 .now) (a .end2 .now) (a .cost .now) (a .mark .now) (a .ts .now) (l .0) (l .1 .0) (l .1 .1 .0) (l .1 .1 .1 .0) (bytes k) (good k) (start k) (full k)
 
--- src/accept.rt:33:9
 read-job-requires : tie.Need-read-job-requires
 read-job-requires c κs = empty-places (c .before .before .before .before .before .pre)
 
--- src/accept.rt:36:9
 returns : tie.Need-returns
 returns c =
     let r = c .before in
     let a = r .before .before .before .before .before .before .args in
     (accept-refused (a .frame .now) (r .read-job .result) (r .read-job .ensures .0) (c .if1 .taken), λ z. absurd (c .if1 .taken z))
 
--- src/accept.rt:39:17
 cast-edges : tie.Need-cast-edges
 cast-edges c = search needs
 
--- src/accept.rt:40:9
 tree-ranks-requires : tie.Need-tree-ranks-requires
 tree-ranks-requires c κs =
     let k = c .before .before .before .before in
@@ -73,7 +63,6 @@ tree-ranks-requires c κs =
     let l = r .read-job .last .1 in
     (few-edges (a .frame .now) (r .read-job .result) (r .read-job .ensures .0) (bytes k) (k .if1 .left), start k .ranks)
 
--- src/accept.rt:41:8
 add-if2 : tie.Need-add-if2
 add-if2 c =
     let t = c in
@@ -83,15 +72,12 @@ add-if2 c =
     let l = r .read-job .last .1 in
     omega (arith, count-few (jobOf (a .frame .now)) (l .0) (l .1 .0) (l .1 .1 .0) (l .1 .1 .1 .0) (kept k) (r .read-job .result .nodes) (r .read-job .result .edges) (t .tree-ranks .result) (t .tree-ranks .last .1 .1 .1 .0) (header-nodes (a .frame .now) (r .read-job .result) (r .read-job .ensures .0) (bytes k) (k .if1 .left)) (header-edges (a .frame .now) (r .read-job .result) (r .read-job .ensures .0) (bytes k) (k .if1 .left)) (t .tree-ranks .ensures .0) (t .tree-ranks .ensures .1 .0) (t .tree-ranks .ensures .1 .1))
 
--- src/accept.rt:41:21
 cast-if2 : tie.Need-cast-if2
 cast-if2 c = search needs
 
--- src/accept.rt:42:9
 refused6-requires : tie.Need-refused6-requires
 refused6-requires c κs = search needs
 
--- src/accept.rt:42:9
 returns-2 : tie.Need-returns-2
 returns-2 c =
     let t = c .before .before in
@@ -101,7 +87,6 @@ returns-2 c =
     let l = r .read-job .last .1 in
     (c .refused6 .ensures ∙ tree-refused (a .frame .now) (r .read-job .result) (r .read-job .ensures .0) (bytes k) (k .if1 .left) (count-wrong (jobOf (a .frame .now)) (l .0) (l .1 .0) (l .1 .1 .0) (l .1 .1 .1 .0) (kept k) (r .read-job .result .nodes) (r .read-job .result .edges) (t .tree-ranks .result) (t .tree-ranks .last .1 .1 .1 .0) (header-nodes (a .frame .now) (r .read-job .result) (r .read-job .ensures .0) (bytes k) (k .if1 .left)) (header-edges (a .frame .now) (r .read-job .result) (r .read-job .ensures .0) (bytes k) (k .if1 .left)) (t .tree-ranks .ensures .0) (t .tree-ranks .ensures .1 .0) (t .tree-ranks .ensures .1 .1) (c .before .if2 .taken)), λ z. absurd (six-nonzero (c .refused6 .result) (c .refused6 .ensures) z))
 
--- src/accept.rt:44:9
 question6-requires : tie.Need-question6-requires
 question6-requires c κs =
     let t = c .before .before .before .before .before in
@@ -111,11 +96,9 @@ question6-requires c κs =
     let l = r .read-job .last .1 in
     tree-ranked (jobOf (a .frame .now)) (l .0) (l .1 .0) (l .1 .1 .0) (l .1 .1 .1 .0) (kept k) (r .read-job .result .nodes) (r .read-job .result .edges) (t .tree-ranks .result) (t .tree-ranks .last .1 .1 .1 .0) (header-nodes (a .frame .now) (r .read-job .result) (r .read-job .ensures .0) (bytes k) (k .if1 .left)) (header-edges (a .frame .now) (r .read-job .result) (r .read-job .ensures .0) (bytes k) (k .if1 .left)) (t .tree-ranks .ensures .0) (t .tree-ranks .ensures .1 .0) (t .tree-ranks .ensures .1 .1) (c .before .before .before .before .if2 .left)
 
--- src/accept.rt:45:9
 refused6-requires-2 : tie.Need-refused6-requires-2
 refused6-requires-2 c κs = search needs
 
--- src/accept.rt:45:9
 returns-3 : tie.Need-returns-3
 returns-3 c =
     let q = c .before .before in
@@ -126,7 +109,6 @@ returns-3 c =
     let l = r .read-job .last .1 in
     (c .refused62 .ensures ∙ tree-refused (a .frame .now) (r .read-job .result) (r .read-job .ensures .0) (bytes k) (k .if1 .left) (sym (tree-answer (jobOf (a .frame .now)) (l .0) (l .1 .0) (l .1 .1 .0) (l .1 .1 .1 .0) (kept k) (r .read-job .result .nodes) (r .read-job .result .edges) (t .tree-ranks .result) (t .tree-ranks .last .1 .1 .1 .0) (header-nodes (a .frame .now) (r .read-job .result) (r .read-job .ensures .0) (bytes k) (k .if1 .left)) (header-edges (a .frame .now) (r .read-job .result) (r .read-job .ensures .0) (bytes k) (k .if1 .left)) (t .tree-ranks .ensures .0) (t .tree-ranks .ensures .1 .0) (t .tree-ranks .ensures .1 .1) (q .before .before .before .before .before .if2 .left) (q .question6 .result) (q .question6 .ensures .0)) ∙ not-true _ (c .before .if3 .taken)), λ z. absurd (six-nonzero (c .refused62 .result) (c .refused62 .ensures) z))
 
--- src/accept.rt:18:1
 returns-4 : tie.Need-returns-4
 returns-4 c =
     let q = c .before in

@@ -13,35 +13,26 @@ use Rattle.service.specs.VerdictLaws.{paths-held, judge-asked, judge-hel
 use borrow.Author.Needs.{needs}
 use Rattle.service.proofs.judge.judge.Statement.{statement}
 use Rattle.service.proofs.judge.judge.Tie as tie
-use Rattle.service.proofs.judge.judge.Reads as reads
-use Rattle.service.proofs.judge.judge.Lts as lts
-use Rattle.service.proofs.accept.accept.Reads as accept-reads
-use Rattle.tree.proofs.judge.Reads as judge-reads
 
 -- the frame holds bytes
 bytes : (t : tie.After-accept) → Bytes (t .before .before .before .before .before .before .before .before .args .frame .now)
 bytes t i = t .before .before .before .before .before .before .before .shared-slice-known .given i .fits
 
--- src/judge.rt:22:9
 accept-requires : tie.Need-accept-requires
 accept-requires c κs = search needs
 
--- src/judge.rt:25:9
 returns : tie.Need-returns
 returns c =
     let t = c .before in
     let a = t .before .before .before .before .before .before .before .before .args in
     tree-judged-of (a .frame .now) (bytes t) _ (verdict-refused (refusal (a .frame .now)) (t .accept .result .refusal) _ (accepted-number (a .frame .now) (t .accept .result) (t .accept .ensures .0)) (c .if1 .taken))
 
--- src/judge.rt:27:17
 cast-edges : tie.Need-cast-edges
 cast-edges c = search needs
 
--- src/judge.rt:28:17
 cast-count : tie.Need-cast-count
 cast-count c = search needs
 
--- src/judge.rt:28:17
 sub-count : tie.Need-sub-count
 sub-count c =
     let t = c .before .before .before in
@@ -49,7 +40,6 @@ sub-count c =
     let z = c .before .before .if1 .left in
     omega (arith, accepted (a .frame .now) (bytes t) (accepted-number (a .frame .now) (t .accept .result) (t .accept .ensures .0) ∙ z) .some-node, accepted-nodes (a .frame .now) (t .accept .result) (t .accept .ensures .0) z)
 
--- src/judge.rt:29:8
 judge-requires : tie.Need-judge-requires
 judge-requires c κs =
     let t = c .before .before .before .before .before .before .before .before .before in
@@ -58,7 +48,6 @@ judge-requires c κs =
     let z = c .before .before .before .before .before .before .before .before .if1 .left in
     judge-asked (jobOf (a .frame .now)) (l .0) (l .1 .0) (l .1 .1 .0) (l .1 .1 .1 .0) (l .1 .1 .1 .1 .0) (l .1 .1 .1 .1 .1 .0) (t .accept .ensures .1 z) (accepted (a .frame .now) (bytes t) (accepted-number (a .frame .now) (t .accept .result) (t .accept .ensures .0) ∙ z)) (t .accept .result .nodes) (t .accept .result .edges) (accepted-nodes (a .frame .now) (t .accept .result) (t .accept .ensures .0) z) (accepted-edges (a .frame .now) (t .accept .result) (t .accept .ensures .0) z) (t .accept .result .nodes - 1) refl
 
--- src/judge.rt:30:9
 returns-2 : tie.Need-returns-2
 returns-2 c =
     let q = c .before in
@@ -69,7 +58,6 @@ returns-2 c =
     let word = q .judge .ensures (t .accept .result .nodes) (paths-held (jobOf (a .frame .now)) (l .0) (l .1 .0) (l .1 .1 .0) (l .1 .1 .1 .0) (l .1 .1 .1 .1 .0) (l .1 .1 .1 .1 .1 .0) (t .accept .ensures .1 z) (accepted (a .frame .now) (bytes t) (accepted-number (a .frame .now) (t .accept .result) (t .accept .ensures .0) ∙ z)) (t .accept .result .nodes) (t .accept .result .edges) (accepted-nodes (a .frame .now) (t .accept .result) (t .accept .ensures .0) z) (accepted-edges (a .frame .now) (t .accept .result) (t .accept .ensures .0) z) (t .accept .result .nodes - 1) refl) ∙ judge-held (jobOf (a .frame .now)) (l .0) (l .1 .0) (l .1 .1 .0) (l .1 .1 .1 .0) (l .1 .1 .1 .1 .0) (l .1 .1 .1 .1 .1 .0) (t .accept .ensures .1 z) (accepted (a .frame .now) (bytes t) (accepted-number (a .frame .now) (t .accept .result) (t .accept .ensures .0) ∙ z)) (t .accept .result .nodes) (t .accept .result .edges) (accepted-nodes (a .frame .now) (t .accept .result) (t .accept .ensures .0) z) (accepted-edges (a .frame .now) (t .accept .result) (t .accept .ensures .0) z) (t .accept .result .nodes - 1) refl in
     tree-judged-of (a .frame .now) (bytes t) _ (verdict-word (refusal (a .frame .now)) (judgeTree (jobOf (a .frame .now))) true (accepted-number (a .frame .now) (t .accept .result) (t .accept .ensures .0) ∙ z) (sym (c .if2 .taken) ∙ word))
 
--- src/judge.rt:13:1
 returns-3 : tie.Need-returns-3
 returns-3 c =
     let q = c .before in

@@ -14,21 +14,14 @@ use Rattle.service.specs.AnswerLaws.{answered-of}
 use borrow.Author.Needs.{needs}
 use Rattle.service.proofs.reply.answer.Statement.{statement}
 use Rattle.service.proofs.reply.answer.Tie as tie
-use Rattle.service.proofs.reply.answer.Reads as reads
-use Rattle.service.proofs.reply.answer.Lts as lts
-use Rattle.answer.proofs.write.write_answer.Reads as write-answer-reads
-use Rattle.service.proofs.accept.accept.Reads as accept-reads
-use Rattle.service.proofs.solve.solve.Reads as solve-reads
 
 -- the frame holds bytes
 bytes : (t : tie.After-accept) → Bytes (t .before .before .before .before .before .before .before .before .before .args .frame .now)
 bytes t i = t .before .before .before .before .before .before .before .before .shared-slice-known .given i .fits
 
--- src/reply.rt:17:9
 accept-requires : tie.Need-accept-requires
 accept-requires c κs = search needs
 
--- src/reply.rt:20:9
 returns : tie.Need-returns
 returns c =
     let t = c .before in
@@ -36,11 +29,9 @@ returns c =
     let n = accepted-number (a .frame .now) (t .accept .result) (t .accept .ensures .0) in
     answered-of (a .frame .now) (a .area .now) (bytes t) _ _ (written-refused (t .accept .result .refusal) (answerFrame (answerOf (jobOf (a .frame .now)))) 0 (a .area .now) (c .if1 .taken) ∙ ap (λ (r : ℕ). written r (answerFrame (answerOf (jobOf (a .frame .now)))) 0 (a .area .now)) (sym n))
 
--- src/reply.rt:26:17
 cast-edges : tie.Need-cast-edges
 cast-edges c = search needs
 
--- src/reply.rt:30:9
 solve-requires : tie.Need-solve-requires
 solve-requires c κs =
     let k = c .before .before .before .before .before .before .before .before .before .before in
@@ -58,7 +49,6 @@ solve-requires c κs =
       spare-places = refl;
     }
 
--- src/reply.rt:31:5
 write-answer-requires : tie.Need-write-answer-requires
 write-answer-requires c κs =
     let v = c .before .before .before .before in
@@ -68,11 +58,9 @@ write-answer-requires c κs =
     let z = k .if1 .left in
     λ _. (omega (arith, accepted-edges (a .frame .now) (t .accept .result) (t .accept .ensures .0) z, (accepted (a .frame .now) (bytes t) (accepted-number (a .frame .now) (t .accept .result) (t .accept .ensures .0) ∙ z)) .edge-limit), v .solve .ensures .few)
 
--- src/reply.rt:8:1
 same-length : tie.Need-same-length
 same-length c = search needs
 
--- src/reply.rt:8:1
 returns-2 : tie.Need-returns-2
 returns-2 c =
     let w = c .before .before in

@@ -7,17 +7,10 @@ use Rattle.job.specs.Held.{zero-at, length-zeros}
 use borrow.Author.Needs.{needs}
 use Rattle.service.proofs.solve.new_costs.Statement.{statement}
 use Rattle.service.proofs.solve.new_costs.Tie as tie
-use Rattle.service.proofs.solve.new_costs.Reads as reads
-use Rattle.service.proofs.solve.new_costs.Lts as lts
-use Rattle.labels.proofs.label.Reads as label-reads
-use Rattle.service.proofs.solve.widen.Reads as widen-reads
-use Rattle.solution.proofs.place.Reads as place-reads
 
--- src/solve.rt:32:26
 cast-label : tie.Need-cast-label
 cast-label c = search needs
 
--- src/solve.rt:32:5
 label-requires : tie.Need-label-requires
 label-requires c κs =
     let q = c .before .before .before .pre in
@@ -34,23 +27,19 @@ label-requires c κs =
       no-spare = λ s. zero-at 256 s;
     }
 
--- src/solve.rt:34:5
 widen-requires : tie.Need-widen-requires
 widen-requires c κs = refl
 
--- src/solve.rt:35:5
 place-requires : tie.Need-place-requires
 place-requires c κs =
     let q = c .before .before .before .before .before .before .before .before .before .pre in
     (record { places = q .tree-places; most = omega (arith, q .few-trees); edges = q .tree-edges }, ap length (q .empty) ∙ length-zeros 256)
 
--- src/solve.rt:36:5
 place-requires-2 : tie.Need-place-requires-2
 place-requires-2 c κs =
     let q = c .before .before .before .before .before .before .before .before .before .before .before .before .pre in
     (record { places = q .spare-places; most = q .few-spares; edges = q .spare-edges }, c .before .before .place .ensures .1)
 
--- src/solve.rt:17:1
 returns : tie.Need-returns
 returns c =
     let p = c .before .before .before in

@@ -10,25 +10,13 @@ use Rattle.service.specs.SolveLaws.{few-spares, spare-edges, spare-ends,
 use borrow.Author.Needs.{needs}
 use Rattle.service.proofs.solve.solve.Statement.{statement}
 use Rattle.service.proofs.solve.solve.Tie as tie
-use Rattle.service.proofs.solve.solve.Reads as reads
-use Rattle.service.proofs.solve.solve.Lts as lts
-use Rattle.answer.proofs.write.list_pairs.Reads as list-pairs-reads
-use Rattle.matching.proofs.build.Reads as build-reads
-use Rattle.ranks.proofs.spare_ranks.Reads as spare-ranks-reads
-use Rattle.service.proofs.solve.new_costs.Reads as new-costs-reads
-use Rattle.solution.proofs.fill_rows.Reads as fill-rows-reads
-use Rattle.solution.proofs.partners.Reads as partners-reads
-use Rattle.solution.proofs.steps.Reads as steps-reads
 
--- src/solve.rt:64:17
 sub-trees : tie.Need-sub-trees
 sub-trees c = omega (arith, c .pre .nodes-are, c .pre .accepted .some-node)
 
--- src/solve.rt:66:9
 spare-ranks-requires : tie.Need-spare-ranks-requires
 spare-ranks-requires c κs = (omega (arith, c .before .pre .edges-are, c .before .pre .accepted .edge-limit), refl)
 
--- src/solve.rt:68:5
 fill-rows-requires : tie.Need-fill-rows-requires
 fill-rows-requires c κs =
     let sr = c .before .before in
@@ -41,7 +29,6 @@ fill-rows-requires c κs =
     let pm = v .edges-are in
     (record { places = sr .spare-ranks .ensures .1 .1; most = few-spares j (a .end1 .now) (a .end2 .now) (a .cost .now) (a .mark .now) (a .ts .now) (a .mask .now) hj aj (a .edges) (sr .spare-ranks .result) (sr .spare-ranks .last .1 .1 .1 .0) pm (sr .spare-ranks .ensures .0) (sr .spare-ranks .ensures .1 .0); edges = spare-edges j (a .end1 .now) (a .end2 .now) (a .cost .now) (a .mark .now) (a .ts .now) (a .mask .now) hj aj (a .edges) (sr .spare-ranks .result) (sr .spare-ranks .last .1 .1 .1 .0) pm (sr .spare-ranks .ensures .0) (sr .spare-ranks .ensures .1 .0) }, (spare-ends j (a .end1 .now) (a .end2 .now) (a .cost .now) (a .mark .now) (a .ts .now) (a .mask .now) hj aj (a .edges) (sr .spare-ranks .result) (sr .spare-ranks .last .1 .1 .1 .0) pm (sr .spare-ranks .ensures .0) (sr .spare-ranks .ensures .1 .0), refl))
 
--- src/solve.rt:70:28
 cast-build : tie.Need-cast-build
 cast-build c =
     let sr = c .before .before .before in
@@ -54,7 +41,6 @@ cast-build c =
     let pm = v .edges-are in
     omega (arith, few-spares j (a .end1 .now) (a .end2 .now) (a .cost .now) (a .mark .now) (a .ts .now) (a .mask .now) hj aj (a .edges) (sr .spare-ranks .result) (sr .spare-ranks .last .1 .1 .1 .0) pm (sr .spare-ranks .ensures .0) (sr .spare-ranks .ensures .1 .0))
 
--- src/solve.rt:70:5
 build-requires : tie.Need-build-requires
 build-requires c κs =
     let sr = c .before .before .before .before .before .before in
@@ -74,7 +60,6 @@ build-requires c κs =
       empty = λ s. zero-at 256 s;
     }
 
--- src/solve.rt:71:5
 new-costs-requires : tie.Need-new-costs-requires
 new-costs-requires c κs =
     let bu = c .before .before .before .before in
@@ -98,7 +83,6 @@ new-costs-requires c κs =
       empty = v .empty;
     }
 
--- src/solve.rt:73:5
 partners-requires : tie.Need-partners-requires
 partners-requires c κs =
     let nc = c .before .before .before in
@@ -115,13 +99,11 @@ partners-requires c κs =
       (record { ranks = λ s l. omega (arith, below s, v .nodes-are, aj .node-limit); edges = λ s l z. hj .ranked .edge (getD (nc .new-costs .last .1 .1 .1 .1 .1 .1 .0) s 0 - 1) (omega (arith, below s, v .nodes-are)) }, refl),
     )
 
--- src/solve.rt:74:9
 steps-requires : tie.Need-steps-requires
 steps-requires c κs =
     let v = c .before .before .before .before .before .before .before .before .before .before .before .before .before .before .before .before .before .before .before .pre in
     omega (arith, v .edges-are, v .accepted .edge-limit)
 
--- src/solve.rt:75:9
 list-pairs-requires : tie.Need-list-pairs-requires
 list-pairs-requires c κs =
     let pa = c .before .before .before .before .before in
@@ -139,7 +121,6 @@ list-pairs-requires c κs =
     let pn = v .nodes-are in
     (omega (arith, v .edges-are, v .accepted .edge-limit), (few-pairs j (a .end1 .now) (a .end2 .now) (a .cost .now) (a .mark .now) (a .ts .now) (a .mask .now) hj aj (a .edges) (sr .spare-ranks .result) (sr .spare-ranks .last .1 .1 .1 .0) pm (sr .spare-ranks .ensures .0) (sr .spare-ranks .ensures .1 .0) (f .fill-rows .last .1 .1 .1 .1 .1 .0) (f .fill-rows .ensures .0) (bu .build .last .1 .1 .1 .1 .1 .1 .0) (nc .new-costs .last .1 .1 .1 .1 .1 .1 .0) (nc .new-costs .last .1 .1 .1 .1 .1 .1 .1 .0) (pa .partners .last .1 .1 .1 .1 .0) (subst (λ (n : ℕ). Built (n - 1) (sr .spare-ranks .result) (a .cost .now) (a .ts .now) (sr .spare-ranks .last .1 .1 .1 .0) (f .fill-rows .last .1 .1 .1 .1 .1 .0) (bu .build .last .1 .1 .1 .1 .1 .1 .0)) pn (bu .build .ensures)) (subst (λ (n : ℕ). Costed (n - 1) (sr .spare-ranks .result) (a .cost .now) (a .ts .now) (sr .spare-ranks .last .1 .1 .1 .0) (f .fill-rows .last .1 .1 .1 .1 .1 .0) (bu .build .last .1 .1 .1 .1 .1 .1 .0) (nc .new-costs .last .1 .1 .1 .1 .1 .1 .0) (nc .new-costs .last .1 .1 .1 .1 .1 .1 .1 .0)) pn (nc .new-costs .ensures)) (pa .partners .ensures .0), (v .tree-places, v .spare-places)))
 
--- src/solve.rt:77:16
 cast-t24 : tie.Need-cast-t24
 cast-t24 c =
     let t = c .before .before .before .before in
@@ -158,7 +139,6 @@ cast-t24 c =
     let pn = v .nodes-are in
     omega (arith, t .steps .ensures, small-steps j (a .end1 .now) (a .end2 .now) (a .cost .now) (a .mark .now) (a .ts .now) (a .mask .now) hj aj (a .edges) (sr .spare-ranks .result) (sr .spare-ranks .last .1 .1 .1 .0) pm (sr .spare-ranks .ensures .0) (sr .spare-ranks .ensures .1 .0) (f .fill-rows .last .1 .1 .1 .1 .1 .0) (f .fill-rows .ensures .0) (bu .build .last .1 .1 .1 .1 .1 .1 .0) (nc .new-costs .last .1 .1 .1 .1 .1 .1 .0) (nc .new-costs .last .1 .1 .1 .1 .1 .1 .1 .0) (pa .partners .last .1 .1 .1 .1 .0) (subst (λ (n : ℕ). Built (n - 1) (sr .spare-ranks .result) (a .cost .now) (a .ts .now) (sr .spare-ranks .last .1 .1 .1 .0) (f .fill-rows .last .1 .1 .1 .1 .1 .0) (bu .build .last .1 .1 .1 .1 .1 .1 .0)) pn (bu .build .ensures)) (subst (λ (n : ℕ). Costed (n - 1) (sr .spare-ranks .result) (a .cost .now) (a .ts .now) (sr .spare-ranks .last .1 .1 .1 .0) (f .fill-rows .last .1 .1 .1 .1 .1 .0) (bu .build .last .1 .1 .1 .1 .1 .1 .0) (nc .new-costs .last .1 .1 .1 .1 .1 .1 .0) (nc .new-costs .last .1 .1 .1 .1 .1 .1 .1 .0)) pn (nc .new-costs .ensures)) (pa .partners .ensures .0))
 
--- src/solve.rt:48:1
 returns : tie.Need-returns
 returns c =
     let t = c .before .before .before .before in

@@ -4,8 +4,6 @@ use native.Mathlib.Omega.{arith}
 use Rattle.service.specs.WidenLaws.{Widening, widen-start, widen-turn, widen-end}
 use Rattle.service.proofs.solve.widen.Statement.{statement}
 use Rattle.service.proofs.solve.widen.Tie as tie
-use Rattle.service.proofs.solve.widen.Reads as reads
-use Rattle.service.proofs.solve.widen.Lts as lts
 
 abbrev Inv-loop : tie.InvT-loop
 Inv-loop label wide₀ k₀ wide k = Widening label wide k
@@ -13,41 +11,32 @@ Inv-loop label wide₀ k₀ wide k = Widening label wide k
 abbrev μ-loop : tie.MeasureT-loop
 μ-loop label wide₀ k₀ wide k = 64 - k
 
--- src/solve.rt:10:5
 loop-holds : tie.Need-loop-holds Inv-loop μ-loop
 loop-holds c = widen-start _ _ (c .pre)
 
--- src/solve.rt:11:19
 mul-wide : tie.Need-mul-wide Inv-loop μ-loop
 mul-wide c = omega arith
 
--- src/solve.rt:11:19
 element-copy-out-wide : tie.Need-element-copy-out-wide Inv-loop μ-loop
 element-copy-out-wide c = omega arith
 
--- src/solve.rt:11:9
 mul-wide-2 : tie.Need-mul-wide-2 Inv-loop μ-loop
 mul-wide-2 c = omega arith
 
--- src/solve.rt:11:9
 element-write-wide : tie.Need-element-write-wide Inv-loop μ-loop
 element-write-wide c = omega arith
 
--- src/solve.rt:12:9
 add-k : tie.Need-add-k Inv-loop μ-loop
 add-k c = omega arith
 
--- src/solve.rt:10:5
 loop-less : tie.Need-loop-less Inv-loop μ-loop
 loop-less c = omega arith
 
--- src/solve.rt:10:5
 loop-again : tie.Need-loop-again Inv-loop μ-loop
 loop-again c =
     let l = c .before .before in
     widen-turn _ _ _ (c .before .loop-test .taken) (l .loop .inv)
 
--- src/solve.rt:5:1
 returns : tie.Need-returns Inv-loop μ-loop
 returns c = widen-end _ _ _ (c .loop-test .left) (c .before .loop .inv)
 

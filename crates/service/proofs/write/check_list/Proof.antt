@@ -12,11 +12,6 @@ use Rattle.service.specs.ListLaws.{list-form-refused, list-tree, list-st
 use borrow.Author.Needs.{needs}
 use Rattle.service.proofs.write.check_list.Statement.{statement}
 use Rattle.service.proofs.write.check_list.Tie as tie
-use Rattle.service.proofs.write.check_list.Reads as reads
-use Rattle.service.proofs.write.check_list.Lts as lts
-use Rattle.job.proofs.write.check_list.Reads as check-list-reads
-use Rattle.ranks.proofs.tree_ranks.Reads as tree-ranks-reads
-use Rattle.tree.proofs.question6.Reads as question6-reads
 
 -- questions 1 to 5 have passed
 good : (k : tie.Else1) → let a = k .before .before .args in listFormRefusal (jobAt (a .nodes) (a .edges) (a .end1 .now) (a .end2 .now) (a .cost .now) (a .mark .now)) ≡ 0
@@ -25,25 +20,21 @@ good k = sym (k .before .check-list .ensures) ∙ k .if1 .left
 kept : (k : tie.Else1) → let a = k .before .before .args in Stored (jobAt (a .nodes) (a .edges) (a .end1 .now) (a .end2 .now) (a .cost .now) (a .mark .now)) (a .end1 .now) (a .end2 .now) (a .cost .now) (a .mark .now)
 kept k = let a = k .before .before .args in list-stored (a .nodes) (a .edges) (a .end1 .now) (a .end2 .now) (a .cost .now) (a .mark .now) (k .before .before .pre) (good k)
 
--- src/write.rt:23:9
 check-list-requires : tie.Need-check-list-requires
 check-list-requires c κs = search needs
 
--- src/write.rt:25:9
 returns : tie.Need-returns
 returns c =
     let a = c .before .before .args in
     let e = c .before .check-list .ensures in
     e ∙ sym (list-form-refused (jobAt (a .nodes) (a .edges) (a .end1 .now) (a .end2 .now) (a .cost .now) (a .mark .now)) (λ z. c .if1 .taken (e ∙ z)))
 
--- src/write.rt:29:9
 tree-ranks-requires : tie.Need-tree-ranks-requires
 tree-ranks-requires c κs =
     let k = c .before in
     let a = k .before .before .args in
     (list-few (a .nodes) (a .edges) (a .end1 .now) (a .end2 .now) (a .cost .now) (a .mark .now) (k .before .before .pre) (good k), refl)
 
--- src/write.rt:30:8
 add-if2 : tie.Need-add-if2
 add-if2 c =
     let t = c in
@@ -51,7 +42,6 @@ add-if2 c =
     let a = k .before .before .args in
     omega (arith, count-few (jobAt (a .nodes) (a .edges) (a .end1 .now) (a .end2 .now) (a .cost .now) (a .mark .now)) (a .end1 .now) (a .end2 .now) (a .cost .now) (a .mark .now) (kept k) (a .nodes) (a .edges) (t .tree-ranks .result) (t .tree-ranks .last .1 .1 .1 .0) refl (sym (rows-length (a .edges) (a .end1 .now) (a .end2 .now) (a .cost .now) (a .mark .now))) (t .tree-ranks .ensures .0) (t .tree-ranks .ensures .1 .0) (t .tree-ranks .ensures .1 .1))
 
--- src/write.rt:31:9
 returns-2 : tie.Need-returns-2
 returns-2 c =
     let t = c .before in
@@ -59,7 +49,6 @@ returns-2 c =
     let a = k .before .before .args in
     sym (list-tree (jobAt (a .nodes) (a .edges) (a .end1 .now) (a .end2 .now) (a .cost .now) (a .mark .now)) (good k) ∙ rw (count-wrong (jobAt (a .nodes) (a .edges) (a .end1 .now) (a .end2 .now) (a .cost .now) (a .mark .now)) (a .end1 .now) (a .end2 .now) (a .cost .now) (a .mark .now) (kept k) (a .nodes) (a .edges) (t .tree-ranks .result) (t .tree-ranks .last .1 .1 .1 .0) refl (sym (rows-length (a .edges) (a .end1 .now) (a .end2 .now) (a .cost .now) (a .mark .now))) (t .tree-ranks .ensures .0) (t .tree-ranks .ensures .1 .0) (t .tree-ranks .ensures .1 .1) (c .if2 .taken)))
 
--- src/write.rt:33:9
 question6-requires : tie.Need-question6-requires
 question6-requires c κs =
     let t = c .before .before .before in
@@ -67,7 +56,6 @@ question6-requires c κs =
     let a = k .before .before .args in
     tree-ranked (jobAt (a .nodes) (a .edges) (a .end1 .now) (a .end2 .now) (a .cost .now) (a .mark .now)) (a .end1 .now) (a .end2 .now) (a .cost .now) (a .mark .now) (kept k) (a .nodes) (a .edges) (t .tree-ranks .result) (t .tree-ranks .last .1 .1 .1 .0) refl (sym (rows-length (a .edges) (a .end1 .now) (a .end2 .now) (a .cost .now) (a .mark .now))) (t .tree-ranks .ensures .0) (t .tree-ranks .ensures .1 .0) (t .tree-ranks .ensures .1 .1) (c .before .before .if2 .left)
 
--- src/write.rt:34:9
 returns-3 : tie.Need-returns-3
 returns-3 c =
     let q = c .before in
@@ -77,7 +65,6 @@ returns-3 c =
     let no : question6 (jobAt (a .nodes) (a .edges) (a .end1 .now) (a .end2 .now) (a .cost .now) (a .mark .now)) ≡ false = sym (tree-answer (jobAt (a .nodes) (a .edges) (a .end1 .now) (a .end2 .now) (a .cost .now) (a .mark .now)) (a .end1 .now) (a .end2 .now) (a .cost .now) (a .mark .now) (kept k) (a .nodes) (a .edges) (t .tree-ranks .result) (t .tree-ranks .last .1 .1 .1 .0) refl (sym (rows-length (a .edges) (a .end1 .now) (a .end2 .now) (a .cost .now) (a .mark .now))) (t .tree-ranks .ensures .0) (t .tree-ranks .ensures .1 .0) (t .tree-ranks .ensures .1 .1) (q .before .before .before .if2 .left) (q .question6 .result) (q .question6 .ensures .0)) ∙ not-true _ (c .if3 .taken) in
     sym (list-tree (jobAt (a .nodes) (a .edges) (a .end1 .now) (a .end2 .now) (a .cost .now) (a .mark .now)) (good k) ∙ rw no)
 
--- src/write.rt:10:1
 returns-4 : tie.Need-returns-4
 returns-4 c =
     let q = c .before in
