@@ -1,4 +1,5 @@
-// The public face: services on job and answer frames. None of them has a `requires`.
+// The public face: services on job and answer frames. Those that take frames have no `requires`; `accept`, `solve` and the
+// writers of lists work on arrays, and say what they ask of them.
 pub mod accept;
 pub mod find;
 pub mod judge;

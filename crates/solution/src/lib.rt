@@ -1,14 +1,14 @@
-// From edges to ranks and back: the rows of the ranks that each spare edge covers; and new costs, mates, steps and the
-// number of pairs from what the search found by rank (specs/Asked.antt).
+// From edges to ranks and back: the rows of the ranks that each spare edge covers; and new costs, mates and steps from what
+// the search found by rank (specs/Asked.antt).
 ghost use mathlib.Core.Path.{_≡_};
 ghost use mathlib.Core.Bool.{_&&_, _||_};
 ghost use Prim.Native.Nat.{ℕ, _-_, _<_, _≤_};
 ghost use lib.Dec.{eqb, ltb};
 ghost use lib.ListN.{length, getD, replicate, take};
-ghost use Rattle.loops.specs.Loop.{sum, gather};
+ghost use Rattle.loops.specs.Loop.{sum};
 ghost use Rattle.bits.specs.Bit.{bit};
 ghost use Rattle.sets.specs.Sets.{inRow};
-ghost use Rattle.optimum.specs.Solve.{place, join, partners, pairAt, gap};
+ghost use Rattle.optimum.specs.Solve.{place, join, partners, gap};
 ghost use Rattle.solution.specs.Asked.{covers, Ranks, Ends, Mated};
 use ids::Edge;
 use ids::SpareRank;
@@ -141,20 +141,4 @@ pub fn steps(edges: usize, cost: &[u32; 256], costs: &[u32; 256]) -> u64
         e += 1;
     }
     total
-}
-
-// How many edges have a mate.
-pub fn count_pairs(edges: usize, mate: &[u32; 256]) -> usize
-    requires { ⌜ edges ≤ 256 ⌝ }
-    ensures { λ r. ⌜ r ≡ length (gather edges (λ e. pairAt e (getD (now (mate .entry)) e 0))) ⌝ }
-{
-    let mut count: usize = 0;
-    let mut e: usize = 0;
-    while e < edges {
-        if mate[e] != 0 {
-            count += 1;
-        }
-        e += 1;
-    }
-    count
 }
