@@ -31,7 +31,7 @@ MODEL = {
     "leb128": ["Number"],
     "graph": ["Rank", "Paths"],
     "optimum": ["Search", "Lowest", "Solve"],
-    "frame": ["Questions", "Answers"],
+    "frame": ["Questions", "Answers", "Services"],
 }
 LIBRARY = ["mathlib.Core.List.flatMap", "mathlib.Core.Bool.xor"]
 
@@ -134,7 +134,7 @@ def word(judged):
 
 
 def outcome_text(refused, length, area):
-    return f"record {{ refusal = {refused}; length = {length}; area = {list_text(area)} }}"
+    return f"record {{ refusal = {refused}; size = {length}; area = {list_text(area)} }}"
 
 
 def job_text(job):
