@@ -44,6 +44,18 @@ ROWS = {
 # The job of 13 steps, all costs 3: either pairing is right.
 THIRTEEN = "03 04 00 01 09 01 01 02 08 01 00 02 01 00 00 02 03 00"
 
+# Ways to go wrong, each with a job that shows it: the frame, its steps, and the steps that the wrong way takes or names.
+TRAPS = {
+    "each tree link lowered to its cheapest spare": (ROWS["T1"][0], 3, 5),
+    "the pairing with most pairs": ("03 04 00 01 0A 01 01 02 01 01 00 02 00 00 00 01 09 00", 10, 2),
+    "pairs without rearranging": ("03 04 00 01 09 01 01 02 08 01 00 02 01 00 00 01 03 00", 13, 8),
+    "stopped after the first pair": (THIRTEEN, 13, 8),
+    "old costs handed back": (ROWS["T1"][0], 3, 0),
+    "all links set to one cost": ("03 03 00 01 02 01 01 02 09 01 00 01 05 00", 0, 7),
+    "a made-up step count": (ROWS["T4"][0], 1, 0),
+    "an empty pairing": (ROWS["T4"][0], 1, 0),
+}
+
 
 class Different(Exception):
     """What the program printed is not what it should print."""
@@ -242,6 +254,15 @@ def check_thirteen(frame):
     return number, steps
 
 
+def check_trap(right, wrong):
+    def check(frame):
+        number, steps = check_frame(frame, solved=True)
+        if steps != right or steps == wrong:
+            raise Different(f"{steps} steps, wanted {right} and not {wrong}")
+        return number, steps
+    return check
+
+
 def check_too_long(frame):
     same(run(frame), "too long\n")
     return "too long", None
@@ -256,6 +277,8 @@ def runs(rng, wanted):
     for row, result in ROWS.values():
         yield "document 01", bytes.fromhex(row), check_row(result)
     yield "document 01", bytes.fromhex(THIRTEEN), check_thirteen
+    for name, (row, right, wrong) in TRAPS.items():
+        yield "trap: " + name, bytes.fromhex(row), check_trap(right, wrong)
     yield "document 01", bytes.fromhex("02 80 02" + " 00 01 05 01" + " 00 01 04 00" * 255), check_frame
     for filler, behind, alone in [(b"\x00", 3, 2), (b"\x01", 3, 3), (b"\x80", 1, 1), (b"\xff", 1, 1)]:
         yield "longest input", (first + filler * LONGEST_INPUT)[:LONGEST_INPUT], check_refused(behind)
