@@ -1,6 +1,6 @@
 // Canonical LEB128 numbers in slices: read and written at a position. The layout is specs/Number.antt's.
 ghost use mathlib.Core.Path.{_≡_};
-ghost use Prim.Native.Nat.{_+_, _≤_};
+ghost use Prim.Native.Nat.{_+_, _<_, _≤_};
 ghost use lib.ListN.{length};
 ghost use lib.Seq.{sets};
 ghost use Rattle.leb128.specs.Number.{encode, readAt};
@@ -13,9 +13,9 @@ pub enum Number {
     Refused,
 }
 
-// The number of at most `most` bytes that stands at `at`.
-pub fn read(s: &[u8], at: usize, most: u32) -> Number
-    requires { ⌜ most ≤ 4 ⌝ }
+// The number of at most `most` bytes that stands at `at`, byte by byte.
+fn read_long(s: &[u8], at: usize, most: u32) -> Number
+    requires { ⌜ most < 5 ⌝ }
     ensures { λ r. ⌜ r ≡ readAt most (now (s .entry)) at ⌝ }
 {
     if most == 0 {
@@ -28,7 +28,7 @@ pub fn read(s: &[u8], at: usize, most: u32) -> Number
     if b < 128 {
         return Number::Value(b, at + 1);
     }
-    let rest = read(s, at + 1, most - 1);
+    let rest = read_long(s, at + 1, most - 1);
     match rest {
         Number::Value(v, next) => {
             if v == 0 {
@@ -38,6 +38,23 @@ pub fn read(s: &[u8], at: usize, most: u32) -> Number
         }
         Number::Refused => Number::Refused,
     }
+}
+
+// The number of at most `most` bytes that stands at `at`. Most numbers have one byte: they cost no call.
+pub fn read(bytes: &[u8], at: usize, most: u32) -> Number
+    requires { ⌜ most ≤ 4 ⌝ }
+    ensures { λ r. ⌜ r ≡ readAt most (now (bytes .entry)) at ⌝ }
+{
+    if most == 0 {
+        return Number::Refused;
+    }
+    if at < bytes.len() {
+        let byte = bytes[at] as u32;
+        if byte < 128 {
+            return Number::Value(byte, at + 1);
+        }
+    }
+    read_long(bytes, at, most)
 }
 
 // How many bytes `x` takes.

@@ -1,0 +1,19 @@
+-- `ist::ist_judge` meets its contract: the judge's verdict as a number. Assumes nothing.
+use Rattle.ist.specs.ExportLaws.{judged-sayable, code-told}
+use borrow.Author.Needs.{needs}
+use Rattle.ist.proofs.ist_judge.Statement.{statement}
+use Rattle.ist.proofs.ist_judge.Tie as tie
+
+judge-requires : tie.Need-judge-requires
+judge-requires c κs = search needs
+
+code-requires : tie.Need-code-requires
+code-requires c κs = judged-sayable _ _ _ _ (c .judge .ensures)
+
+returns : tie.Need-returns
+returns c =
+    let judged = c .before .judge .ensures in
+    record { verdict = c .before .judge .result; number = code-told _ _ (judged-sayable _ _ _ _ judged) (c .code .ensures); judged = judged }
+
+pub ist-judge-spec : {M : Type 1} → statement M
+ist-judge-spec = tie.close (tie.spec judge-requires code-requires returns)

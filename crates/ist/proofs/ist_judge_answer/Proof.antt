@@ -1,0 +1,19 @@
+-- `ist::ist_judge_answer` meets its contract: the judge's verdict as a number. Assumes nothing.
+use Rattle.ist.specs.ExportLaws.{judged-sayable, code-told}
+use borrow.Author.Needs.{needs}
+use Rattle.ist.proofs.ist_judge_answer.Statement.{statement}
+use Rattle.ist.proofs.ist_judge_answer.Tie as tie
+
+judge-answer-requires : tie.Need-judge-answer-requires
+judge-answer-requires c κs = search needs
+
+code-requires : tie.Need-code-requires
+code-requires c κs = judged-sayable _ _ _ _ (c .judge-answer .ensures)
+
+returns : tie.Need-returns
+returns c =
+    let judged = c .before .judge-answer .ensures in
+    record { verdict = c .before .judge-answer .result; number = code-told _ _ (judged-sayable _ _ _ _ judged) (c .code .ensures); judged = judged }
+
+pub ist-judge-answer-spec : {M : Type 1} → statement M
+ist-judge-answer-spec = tie.close (tie.spec judge-answer-requires code-requires returns)

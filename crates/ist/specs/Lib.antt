@@ -1,0 +1,3 @@
+-- What the functions for C promise, and laws about it.
+pub mod Exports
+pub mod ExportLaws

@@ -1,0 +1,44 @@
+// The library's functions for C (include/ist.h): each calls one service and carries its promise.
+ghost use mathlib.Core.Path.{_≡_};
+ghost use Rattle.service.specs.Answering.{Answered};
+ghost use Rattle.service.specs.Verdicts.{TreeJudged, AnswerJudged};
+ghost use Rattle.ist.specs.Exports.{codeOf, Sayable, Said, Replied};
+use service::judge::Verdict;
+
+// A verdict as a number: 0 for yes, -1 for no, else the refusal.
+fn code(verdict: Verdict) -> i32
+    requires { ⌜ Sayable verdict ⌝ }
+    ensures { λ r. ⌜ r ≡ codeOf verdict ⌝ }
+{
+    match verdict {
+        Verdict::Yes => 0,
+        Verdict::No => -1,
+        Verdict::Refused(refusal) => refusal as i32,
+    }
+}
+
+// Answers a job frame into the area.
+#[no_mangle]
+pub extern "C" fn ist_answer(job: &[u8], area: &mut [u8], written: &mut usize) -> i32
+    ensures { λ r. ⌜ Replied (λ reply. Answered (now (job .entry)) (now (area .entry)) reply (now (area .exit))) r (now (written .exit)) ⌝ }
+{
+    let reply = service::reply::answer(job, area);
+    *written = reply.length;
+    reply.refusal as i32
+}
+
+// Is the marked tree of a job frame cheapest?
+#[no_mangle]
+pub extern "C" fn ist_judge(job: &[u8]) -> i32
+    ensures { λ r. ⌜ Said (TreeJudged (now (job .entry))) r ⌝ }
+{
+    code(service::judge::judge(job))
+}
+
+// Is a frame an answer to the job frame?
+#[no_mangle]
+pub extern "C" fn ist_judge_answer(job: &[u8], answer: &[u8]) -> i32
+    ensures { λ r. ⌜ Said (AnswerJudged (now (job .entry)) (now (answer .entry))) r ⌝ }
+{
+    code(service::verdict::judge_answer(job, answer))
+}
