@@ -1,20 +1,21 @@
--- The part between the numbers before a link's new cost and those behind it is that cost. Assumes nothing.
+-- Between the numbers before a link's new cost and those behind it stands that cost. Assumes nothing.
 use Prim.Native.Nat.{ℕ, zero, suc, _+_, _-_, _<_, _≤_}
 use native.Mathlib.Omega.{arith}
 use mathlib.Core.Path.{_≡_, refl, sym, ap, ap₂, subst, _∙_}
 use mathlib.Core.List.{List, [], _∷_, _++_, flatMap, append-nil}
 use lib.ListN.{length, getD, take, drop, length-append, length-drop}
-use lib.Seq.{take-append-seam, drop-append-seam}
+use lib.Seq.{take-append-le, drop-append-seam}
 use Rattle.leb128.specs.Number.{encode, decode, located, readAt}
 use Rattle.leb128.specs.declared.Number.the-variants as Read
 use Rattle.leb128.specs.Laws.{decode-encode}
 use Rattle.optimum.specs.Optimum.{both}
 use Rattle.frame.specs.Job.{numberBytes, stepBytes, bytesOf}
 use Rattle.frame.specs.Answers.{answerNumbers}
+use Rattle.frame.specs.Services.{costOffset, costLength}
 use Rattle.frame.specs.Meaning.{Divides}
 use Rattle.job.specs.Finding.{skipped, skip-numbers}
 use Rattle.job.specs.FormLaws.{parts-join, drop-divides}
-use Rattle.answer_read.specs.Costs.{CostIn}
+use Rattle.answer_read.specs.Costs.{CostIn, costPlaceIn}
 
 one-number : (xs ys : List ℕ) (e : ℕ) → e < length xs → take 1 (drop e (xs ++ ys)) ≡ getD xs e 0 ∷ []
 one-number [] ys e l = absurd (omega arith)
@@ -38,13 +39,16 @@ module _ (s : List ℕ) (e : ℕ) (k : CostIn s e) where
       let z : _≡_ {A = ℕ} 0 1 = cc in omega arith
 
   module _ (v next : ℕ) (r : readAt stepBytes s 0 ≡ Read.Value v next) (part : List ℕ) (behind : part ≡ drop next s) where
+    behind-is : length (encode stepBytes (k .answer .steps)) ≡ next
+    behind-is =
+        let same : Read.Value (k .answer .steps) (length (encode stepBytes (k .answer .steps))) ≡ Read.Value v next = sym steps-at ∙ r in
+        cc
+
     divides : Divides part ns
     divides =
-        let same : Read.Value (k .answer .steps) (length (encode stepBytes (k .answer .steps))) ≡ Read.Value v next = sym steps-at ∙ r in
-        let there : length (encode stepBytes (k .answer .steps)) ≡ next = cc in
         record {
           small = k .layout .small;
-          joined = sym (drop-append-seam (encode stepBytes (k .answer .steps)) (bytesOf ns)) ∙ ap₂ drop there (k .layout .joined) ∙ sym behind;
+          joined = sym (drop-append-seam (encode stepBytes (k .answer .steps)) (bytesOf ns)) ∙ ap₂ drop behind-is (k .layout .joined) ∙ sym behind;
         }
 
     enough : e + 1 ≤ length ns
@@ -69,11 +73,11 @@ module _ (s : List ℕ) (e : ℕ) (k : CostIn s e) where
       pub cost-within : end ≤ length part
       cost-within = omega (arith, at-first, at-end, length-append (bytesOf (take e ns)) (bytesOf (drop e ns)), ap length (parts-join part ns e divides), length-append (bytesOf (take 1 (drop e ns))) (bytesOf (drop 1 (drop e ns))), ap length rest, length-drop first part)
 
-      pub cost-part : take (end - first) (drop first part) ≡ encode numberBytes (getD (k .answer .costs) e 0)
+      pub cost-place : record { offset = next + first; size = end - first } ≡ costPlaceIn (k .answer) e
       unfolding flatMap
-      cost-part =
-          let size : end - first ≡ length (bytesOf (take 1 (drop e ns))) = omega (arith, at-end) in
-          ap₂ (λ (n : ℕ) (t : List ℕ). take n t) size (sym rest)
-          ∙ take-append-seam (bytesOf (take 1 (drop e ns))) (bytesOf (drop 1 (drop e ns)))
-          ∙ ap bytesOf (one-number (k .answer .costs) (length (k .answer .pairs) ∷ flatMap both (k .answer .pairs)) e (k .inside))
-          ∙ append-nil (encode numberBytes (getD (k .answer .costs) e 0))
+      cost-place =
+          let here : first ≡ length (bytesOf (take e (k .answer .costs))) = at-first ∙ ap (λ xs. length (bytesOf xs)) (take-append-le e (k .answer .costs) (length (k .answer .pairs) ∷ flatMap both (k .answer .pairs)) (omega (arith, k .inside))) in
+          let offset : next + first ≡ costOffset (k .answer) e = omega (arith, here, behind-is, length-append (encode stepBytes (k .answer .steps)) (bytesOf (take e (k .answer .costs)))) in
+          let one : length (bytesOf (take 1 (drop e ns))) ≡ costLength (k .answer) e = ap length (ap bytesOf (one-number (k .answer .costs) (length (k .answer .pairs) ∷ flatMap both (k .answer .pairs)) e (k .inside)) ∙ append-nil (encode numberBytes (getD (k .answer .costs) e 0))) in
+          let size : end - first ≡ costLength (k .answer) e = omega (arith, at-end, one) in
+          ap₂ (λ (o n : ℕ). record { offset = o; size = n }) offset size

@@ -1,12 +1,12 @@
 // Reads an answer frame made elsewhere into arrays: new costs for 256 links, and 64 pairs.
 ghost use mathlib.Core.Path.{_≡_};
-ghost use Prim.Native.Nat.{_≤_};
-ghost use lib.ListN.{length, getD};
-ghost use Rattle.leb128.specs.Number.{encode};
-ghost use Rattle.frame.specs.Job.{numberBytes};
+ghost use Prim.Native.Nat.{_+_, _≤_};
+ghost use lib.ListN.{length};
 ghost use Rattle.frame.specs.Answers.{readAnswer};
 ghost use Rattle.answer_read.specs.Reading.{costsAt, loadCosts, pairsAt, loadPairs, noContents, contents, few, Places};
-ghost use Rattle.answer_read.specs.Costs.{CostIn};
+ghost use Rattle.job.specs.Finding.{placeOf};
+ghost use Rattle.answer_read.specs.Costs.{CostIn, costPlaceIn};
+use job::find::Part;
 use job::find::skip;
 use job::read::Numbers;
 use job::read::count_numbers;
@@ -114,17 +114,24 @@ pub fn read_answer(
     }
 }
 
-// The bytes of a link's new cost in an answer frame that has one.
-pub fn find_cost(frame: &[u8], edge: usize) -> &[u8]
+// Where a link's new cost stands in an answer frame that has one.
+pub fn locate_cost(frame: &[u8], edge: usize) -> Part
     requires { ⌜ CostIn (now frame) edge ⌝ }
-    ensures { λ r. ⌜ ((k : CostIn (now (frame .entry)) edge) → now r ≡ encode numberBytes (getD (k .answer .costs) edge 0)) ⌝ }
+    ensures place { λ r. ⌜ ((k : CostIn (now (frame .entry)) edge) → placeOf r ≡ costPlaceIn (k .answer) edge) ⌝ }
+    ensures within { λ r. ⌜ r .offset + r .length ≤ length (now (frame .entry)) ⌝ }
 {
     let steps = leb128::read(frame, 0, 3);
     let Number::Value(_, behind) = steps else {
-        return &frame[0..0];
+        return Part {
+            offset: 0,
+            length: 0,
+        };
     };
     let part = &frame[behind..];
     let first = skip(part, 0, edge);
     let end = skip(part, first, 1);
-    &part[first..end]
+    Part {
+        offset: behind + first,
+        length: end - first,
+    }
 }

@@ -15,7 +15,7 @@ use Rattle.optimum.specs.Optimum.{both, Answer}
 use Rattle.frame.specs.Job.{Edge, Job, noEdge, link, fields, numberBytes, stepBytes, jobNumbers, bytesOf, jobFrame}
 use Rattle.frame.specs.Questions.{numbers, edgeCount, jobOf, refusal}
 use Rattle.frame.specs.Answers.{answerNumbers, answerFrame, readAnswer, judgeAnswer}
-use Rattle.frame.specs.Services.{linkOffset, linkLength, partWhen, linkPart, costOffset, costLength, noAnswer, costPart}
+use Rattle.frame.specs.Services.{Place, linkOffset, linkLength, nowhere, placeWhen, partAt, linkPlace, linkPart, costOffset, costLength, noAnswer, costPlace, costPart}
 use Rattle.frame.specs.Division.{division}
 use Rattle.frame.specs.RoundTrip.{flatMap-append}
 use Rattle.frame.specs.Accepted.{accepted, write-read6}
@@ -59,27 +59,33 @@ accepted-numbers s h r =
     ap (λ o. Option·getD o [])
     (division s (jobNumbers (jobOf s)) h .1 (record { small = accepted s h r .small; joined = write-read6 s h r }))
 
--- What the link finder shows where the numbers are ns.
-linkPartOf : List ℕ → ℕ → ℕ → List ℕ → List ℕ
-linkPartOf s refused e ns = partWhen (eqb refused 0 && ltb e (edgeCount ns)) (linkOffset ns e) (linkLength ns e) s
+-- A link's place where the numbers are ns.
+placeIn : ℕ → ℕ → List ℕ → Place
+placeIn refused e ns = placeWhen (eqb refused 0 && ltb e (edgeCount ns)) (linkOffset ns e) (linkLength ns e)
 
 -- The link finder hands back the bytes of the link's four numbers.
 pub link-shown : (s : List ℕ) (e : ℕ) → Bytes s → refusal s ≡ 0 → e < length (jobOf s .links) → linkPart (refusal s) s e ≡ bytesOf (fields (link (jobOf s) e))
-unfolding linkPartOf
+unfolding placeIn
 link-shown s e h r l =
-    ap (linkPartOf s (refusal s) e) (accepted-numbers s h r)
+    ap (λ ns. partAt (placeIn (refusal s) e ns) s) (accepted-numbers s h r)
     ∙ rw (eq-eqb (refusal s) 0 r, lt-ltb e (length (jobOf s .links)) l)
     (subst (λ f. take (linkLength (jobNumbers (jobOf s)) e) (drop (linkOffset (jobNumbers (jobOf s)) e) f) ≡ bytesOf (fields (link (jobOf s) e))) (write-read6 s h r) (link-found (jobOf s) e l))
 
--- Its part is empty if the job is refused, or the link number is not below the link count.
+-- A link has no place if the job is refused, or the link number is not below the link count; its part is then empty.
+pub link-nowhere-refused : (r : ℕ) (s : List ℕ) (e : ℕ) → r ≢ 0 → linkPlace r s e ≡ nowhere
+link-nowhere-refused r s e h = rw (ne-eqb r 0 h)
+
+pub link-nowhere-past : (s : List ℕ) (e : ℕ) → Bytes s → refusal s ≡ 0 → length (jobOf s .links) ≤ e → linkPlace (refusal s) s e ≡ nowhere
+unfolding placeIn
+link-nowhere-past s e h r l =
+    ap (placeIn (refusal s) e) (accepted-numbers s h r)
+    ∙ rw (eq-eqb (refusal s) 0 r, le-ltb e (length (jobOf s .links)) l)
+
 pub link-refused : (r : ℕ) (s : List ℕ) (e : ℕ) → r ≢ 0 → linkPart r s e ≡ []
-link-refused r s e h = rw (ne-eqb r 0 h)
+link-refused r s e h = ap (λ p. partAt p s) (link-nowhere-refused r s e h)
 
 pub link-past : (s : List ℕ) (e : ℕ) → Bytes s → refusal s ≡ 0 → length (jobOf s .links) ≤ e → linkPart (refusal s) s e ≡ []
-unfolding linkPartOf
-link-past s e h r l =
-    ap (linkPartOf s (refusal s) e) (accepted-numbers s h r)
-    ∙ rw (eq-eqb (refusal s) 0 r, le-ltb e (length (jobOf s .links)) l)
+link-past s e h r l = ap (λ p. partAt p s) (link-nowhere-past s e h r l)
 
 -- ---- costs
 
@@ -93,21 +99,36 @@ cost-found a e l =
     ∙ between (encode stepBytes (a .steps) ++ bytesOf (take e (a .costs))) (encode numberBytes (getD (a .costs) e 0)) (bytesOf rest)
 
 module _ (s f : List ℕ) (e : ℕ) where
-  -- The cost finder's part is empty if the job is refused, the link number is not below the link count, or the answer is judged no.
+  -- A new cost has no place if the job is refused, the link number is not below the link count, or the answer is judged no.
+  pub cost-nowhere-refused : refusal s ≢ 0 → costPlace s f e ≡ nowhere
+  cost-nowhere-refused h = rw (ne-eqb (refusal s) 0 h)
+
+  pub cost-nowhere-past : length (jobOf s .links) ≤ e → costPlace s f e ≡ nowhere
+  cost-nowhere-past l = rw (le-ltb e (length (jobOf s .links)) l, and-false (eqb (refusal s) 0))
+
+  pub cost-nowhere-judged : judgeAnswer (jobOf s) f ≡ false → costPlace s f e ≡ nowhere
+  cost-nowhere-judged n = rw (n, and-false (eqb (refusal s) 0 && ltb e (length (jobOf s .links))))
+
+  -- The cost finder's part is then empty.
   pub cost-refused : refusal s ≢ 0 → costPart s f e ≡ []
-  cost-refused h = rw (ne-eqb (refusal s) 0 h)
+  cost-refused h = ap (λ p. partAt p f) (cost-nowhere-refused h)
 
   pub cost-past : length (jobOf s .links) ≤ e → costPart s f e ≡ []
-  cost-past l = rw (le-ltb e (length (jobOf s .links)) l, and-false (eqb (refusal s) 0))
+  cost-past l = ap (λ p. partAt p f) (cost-nowhere-past l)
 
   pub cost-judged-no : judgeAnswer (jobOf s) f ≡ false → costPart s f e ≡ []
-  cost-judged-no n = rw (n, and-false (eqb (refusal s) 0 && ltb e (length (jobOf s .links))))
+  cost-judged-no n = ap (λ p. partAt p f) (cost-nowhere-judged n)
 
   -- Else it hands back the answer's bytes of the link's new cost.
-  pub cost-shown : (a : Answer) → refusal s ≡ 0 → e < length (jobOf s .links) → judgeAnswer (jobOf s) f ≡ true → AnswerOf (length (jobOf s .links)) f a → costPart s f e ≡ encode numberBytes (getD (a .costs) e 0)
-  cost-shown a r l y k =
-      let read : Option·getD (readAnswer (length (jobOf s .links)) f) noAnswer ≡ a = ap (λ o. Option·getD o noAnswer) (layout-read k) in
-      let inside : e < length (a .costs) = omega (arith, k .count) in
-      rw (eq-eqb (refusal s) 0 r, lt-ltb e (length (jobOf s .links)) l, y)
-      (ap (λ x. take (costLength x e) (drop (costOffset x e) f)) read
-      ∙ subst (λ t. take (costLength a e) (drop (costOffset a e) t) ≡ encode numberBytes (getD (a .costs) e 0)) (k .joined) (cost-found a e inside))
+  module _ (a : Answer) (r : refusal s ≡ 0) (l : e < length (jobOf s .links)) (y : judgeAnswer (jobOf s) f ≡ true) (k : AnswerOf (length (jobOf s .links)) f a) where
+    pub cost-placed : costPlace s f e ≡ record { offset = costOffset a e; size = costLength a e }
+    cost-placed =
+        let read : Option·getD (readAnswer (length (jobOf s .links)) f) noAnswer ≡ a = ap (λ o. Option·getD o noAnswer) (layout-read k) in
+        rw (eq-eqb (refusal s) 0 r, lt-ltb e (length (jobOf s .links)) l, y)
+        (ap (λ x. record { offset = costOffset x e; size = costLength x e }) read)
+
+    pub cost-shown : costPart s f e ≡ encode numberBytes (getD (a .costs) e 0)
+    cost-shown =
+        ap (λ p. partAt p f) cost-placed
+        ∙ subst (λ t. take (costLength a e) (drop (costOffset a e) t) ≡ encode numberBytes (getD (a .costs) e 0)) (k .joined)
+        (cost-found a e (omega (arith, k .count, l)))

@@ -55,20 +55,34 @@ listFormRefusal j = listQuestions (λ _. 0) j
 abbrev pub listRefusal : Job → ℕ
 listRefusal j = listQuestions (λ j. ask (question6 j) 6 λ _. 0) j
 
--- The link finder: link e's four numbers as the frame's own bytes, from this place on and so many.
+-- Where a part of a frame stands: from this place on, and so many bytes; nowhere, of no bytes, if it is not shown.
+pub record Place : Type 0 where
+  pub offset : ℕ
+  pub size : ℕ
+
+abbrev pub nowhere : Place
+nowhere = record { offset = 0; size = 0 }
+
+abbrev pub placeWhen : Bool → ℕ → ℕ → Place
+placeWhen shown offset size = choose shown (λ _. record { offset = offset; size = size }) (λ _. nowhere)
+
+abbrev pub partAt : Place → List ℕ → List ℕ
+partAt p s = take (p .size) (drop (p .offset) s)
+
+-- The link finder: link e's four numbers as the frame's own bytes.
 abbrev pub linkOffset : List ℕ → ℕ → ℕ
 linkOffset ns e = length (bytesOf (take (4 * e + 2) ns))
 
 abbrev pub linkLength : List ℕ → ℕ → ℕ
 linkLength ns e = length (bytesOf (take 4 (drop (4 * e + 2) ns)))
 
-abbrev pub partWhen : Bool → ℕ → ℕ → List ℕ → List ℕ
-partWhen shown offset size s = choose shown (λ _. take size (drop offset s)) (λ _. [])
+abbrev pub linkPlace : ℕ → List ℕ → ℕ → Place
+linkPlace refused s e =
+    let ns : List ℕ = Option·getD (numbers s) [] in
+    placeWhen (eqb refused 0 && ltb e (edgeCount ns)) (linkOffset ns e) (linkLength ns e)
 
 abbrev pub linkPart : ℕ → List ℕ → ℕ → List ℕ
-linkPart refused s e =
-    let ns : List ℕ = Option·getD (numbers s) [] in
-    partWhen (eqb refused 0 && ltb e (edgeCount ns)) (linkOffset ns e) (linkLength ns e) s
+linkPart refused s e = partAt (linkPlace refused s e) s
 
 -- The cost finder: the bytes of link e's new cost in an answer frame that is judged yes for its job.
 abbrev pub costOffset : Answer → ℕ → ℕ
@@ -80,8 +94,11 @@ costLength a e = length (encode numberBytes (getD (a .costs) e 0))
 abbrev pub noAnswer : Answer
 noAnswer = record { steps = 0; costs = []; pairs = [] }
 
-abbrev pub costPart : List ℕ → List ℕ → ℕ → List ℕ
-costPart s f e =
+abbrev pub costPlace : List ℕ → List ℕ → ℕ → Place
+costPlace s f e =
     let j : Job = jobOf s in
     let a : Answer = Option·getD (readAnswer (length (j .links)) f) noAnswer in
-    partWhen (eqb (refusal s) 0 && ltb e (length (j .links)) && judgeAnswer j f) (costOffset a e) (costLength a e) f
+    placeWhen (eqb (refusal s) 0 && ltb e (length (j .links)) && judgeAnswer j f) (costOffset a e) (costLength a e)
+
+abbrev pub costPart : List ℕ → List ℕ → ℕ → List ℕ
+costPart s f e = partAt (costPlace s f e) f

@@ -2,7 +2,9 @@
 ghost use mathlib.Core.Path.{_≡_};
 ghost use Rattle.service.specs.Answering.{Answered};
 ghost use Rattle.service.specs.Verdicts.{TreeJudged, AnswerJudged};
+ghost use Rattle.service.specs.Parts.{LinkLocated, CostLocated};
 ghost use Rattle.ist.specs.Exports.{codeOf, Sayable, Said, Replied};
+use ids::Edge;
 use service::judge::Verdict;
 
 // A verdict as a number: 0 for yes, -1 for no, else the refusal.
@@ -41,4 +43,30 @@ pub extern "C" fn ist_judge_answer(job: &[u8], answer: &[u8]) -> i32
     ensures { λ r. ⌜ Said (AnswerJudged (now (job .entry)) (now (answer .entry))) r ⌝ }
 {
     code(service::verdict::judge_answer(job, answer))
+}
+
+// Where a link's four numbers stand in its job frame.
+#[no_mangle]
+pub extern "C" fn ist_find_link(job: &[u8], link: u32, offset: &mut usize, length: &mut usize)
+    ensures { λ _. ⌜ LinkLocated (now (job .entry)) link (record { offset = now (offset .exit); size = now (length .exit) }) ⌝ }
+{
+    let part = service::find::locate_link(job, Edge(link));
+    *offset = part.offset;
+    *length = part.length;
+}
+
+// Where a link's new cost stands in an answer frame.
+#[no_mangle]
+pub extern "C" fn ist_find_cost(
+    job: &[u8],
+    answer: &[u8],
+    link: u32,
+    offset: &mut usize,
+    length: &mut usize,
+)
+    ensures { λ _. ⌜ CostLocated (now (job .entry)) (now (answer .entry)) link (record { offset = now (offset .exit); size = now (length .exit) }) ⌝ }
+{
+    let part = service::find::locate_cost(job, answer, Edge(link));
+    *offset = part.offset;
+    *length = part.length;
 }

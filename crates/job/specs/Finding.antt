@@ -12,14 +12,19 @@ use Rattle.loops.specs.ScanLaws.{scan-turn}
 use Rattle.leb128.specs.Number.{Bytes, encode}
 use Rattle.frame.specs.Job.{numberBytes, bytesOf}
 use Rattle.frame.specs.Questions.{numbers, edgeCount, jobOf, formRefusal}
-use Rattle.frame.specs.Services.{linkOffset, linkLength, linkPart}
+use Rattle.frame.specs.Services.{Place, nowhere, linkOffset, linkLength, linkPlace}
 use Rattle.frame.specs.Meaning.{Divides}
 use Rattle.frame.specs.Division.{division}
 use Rattle.frame.specs.RoundTrip.{formed, job-of, length-links}
+use Rattle.job.specs.declared.find.Part.{Part}
 use Rattle.job.specs.declared.read.Header.{Header}
 use Rattle.job.specs.Reading.{takenAt, header, headerOf}
 use Rattle.job.specs.LoadLaws.{Next, next-number}
 use Rattle.job.specs.FormLaws.{parts-join, drop-divides}
+
+-- The code's place of a part, in the words of the definitions.
+abbrev pub placeOf : Part → Place
+placeOf p = record { offset = p .offset; size = p .length }
 
 -- The position behind so many numbers from a position on.
 abbrev pub step : List ℕ → ℕ → ℕ → ℕ
@@ -43,7 +48,7 @@ skip-numbers s ns i n d l =
     skip-from s n 0 (length (bytesOf (take i ns))) (drop i ns) (omega (arith, length-append (bytesOf (take i ns)) (bytesOf (drop i ns)), ap length (parts-join s ns i d))) (drop-divides s ns i d) (omega (arith, length-drop i ns))
 
 -- The finder, by the tests of the code.
-pub find-refused : (h : Header) (s : List ℕ) (e : ℕ) → (h .refusal ≡ 0 → ⊥) → linkPart (h .refusal) s e ≡ []
+pub find-refused : (h : Header) (s : List ℕ) (e : ℕ) → (h .refusal ≡ 0 → ⊥) → linkPlace (h .refusal) s e ≡ nowhere
 find-refused h s e n = rw (ne-eqb (h .refusal) 0 n)
 
 -- An accepted header's count is the frame's.
@@ -68,7 +73,7 @@ found s b h z e =
     record { ns = ns; divides = f .divides; divided = division s ns b .1 (f .divides); edges = count; size = omega (arith, f .complete, count) }
 
 module _ (s : List ℕ) (h : Header) (z : h .refusal ≡ 0) (f : Found s h) where
-  pub find-none : (e : ℕ) → h .edges ≤ e → linkPart (h .refusal) s e ≡ []
+  pub find-none : (e : ℕ) → h .edges ≤ e → linkPlace (h .refusal) s e ≡ nowhere
   find-none e l = rw (f .divided, eq-eqb (h .refusal) 0 z, le-ltb e (edgeCount (f .ns)) (omega (arith, f .edges)))
 
   -- The two ends of the part.
@@ -90,8 +95,8 @@ module _ (s : List ℕ) (h : Header) (z : h .refusal ≡ 0) (f : Found s h) wher
         let i : ℕ = 4 * e + 2 in
         omega (arith, at-first, at-end, length-append (bytesOf (take i (f .ns))) (bytesOf (drop i (f .ns))), ap length (parts-join s (f .ns) i (f .divides)), length-append (bytesOf (take 4 (drop i (f .ns)))) (bytesOf (drop 4 (drop i (f .ns)))), ap length (parts-join (drop (length (bytesOf (take i (f .ns)))) s) (drop i (f .ns)) 4 (drop-divides s (f .ns) i (f .divides))), length-drop (length (bytesOf (take i (f .ns)))) s)
 
-    pub find-part : take (end - first) (drop first s) ≡ linkPart (h .refusal) s e
-    find-part =
+    pub find-place : record { offset = first; size = end - first } ≡ linkPlace (h .refusal) s e
+    find-place =
         let size : end - first ≡ linkLength (f .ns) e = omega (arith, at-end) in
         rw (f .divided, eq-eqb (h .refusal) 0 z, lt-ltb e (edgeCount (f .ns)) (omega (arith, f .edges)))
-        (ap₂ (λ (n o : ℕ). take n (drop o s)) size at-first)
+        (ap₂ (λ (o n : ℕ). record { offset = o; size = n }) at-first size)

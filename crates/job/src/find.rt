@@ -1,8 +1,10 @@
-// Finds one link's four numbers in a job frame, as the frame's own bytes.
+// Finds one link's four numbers in a job frame.
 ghost use mathlib.Core.Path.{_≡_};
-ghost use Rattle.frame.specs.Services.{linkPart};
+ghost use Prim.Native.Nat.{_+_, _≤_};
+ghost use lib.ListN.{length};
+ghost use Rattle.frame.specs.Services.{linkPlace};
 ghost use Rattle.job.specs.Reading.{headerOf};
-ghost use Rattle.job.specs.Finding.{skipped};
+ghost use Rattle.job.specs.Finding.{skipped, placeOf};
 use crate::read::Header;
 use crate::read::number_at;
 use ids::Edge;
@@ -21,21 +23,37 @@ pub fn skip(s: &[u8], at: usize, count: usize) -> usize
     next
 }
 
-// The bytes of a link; none if the frame is refused or has no such link.
-pub fn find_link(frame: &[u8], header: Header, edge: Edge) -> &[u8]
+// Where a part of a frame stands.
+pub struct Part {
+    pub offset: usize,
+    pub length: usize,
+}
+
+// Where a link's bytes stand; nowhere, of length 0, if the frame is refused or has no such link.
+pub fn locate_link(frame: &[u8], header: Header, edge: Edge) -> Part
     requires { ⌜ (header .refusal ≡ 0 → header ≡ headerOf (now frame)) ⌝ }
-    ensures { λ r. ⌜ now r ≡ linkPart (header .refusal) (now (frame .entry)) (edge .0) ⌝ }
+    ensures place { λ r. ⌜ placeOf r ≡ linkPlace (header .refusal) (now (frame .entry)) (edge .0) ⌝ }
+    ensures within { λ r. ⌜ r .offset + r .length ≤ length (now (frame .entry)) ⌝ }
 {
     let refusal = header.refusal;
     if refusal != 0 {
-        return &frame[0..0];
+        return Part {
+            offset: 0,
+            length: 0,
+        };
     }
     let edges = header.edges;
     let e = edge.0;
     if edges <= e {
-        return &frame[0..0];
+        return Part {
+            offset: 0,
+            length: 0,
+        };
     }
     let first = skip(frame, 0, 4 * (e as usize) + 2);
     let end = skip(frame, first, 4);
-    &frame[first..end]
+    Part {
+        offset: first,
+        length: end - first,
+    }
 }

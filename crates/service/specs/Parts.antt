@@ -1,12 +1,12 @@
 -- What the finders hand back. Definitions only. Assumes nothing.
-use Prim.Native.Nat.{ℕ, _<_, _≤_}
+use Prim.Native.Nat.{ℕ, _+_, _<_, _≤_}
 use mathlib.Core.Path.{_≡_}
 use mathlib.Core.Logic.{_≢_}
 use mathlib.Core.List.{List, []}
 use lib.ListN.{length, getD}
 use Rattle.frame.specs.Job.{link, fields, bytesOf, numberBytes}
 use Rattle.frame.specs.Questions.{jobOf, refusal}
-use Rattle.frame.specs.Services.{linkPart, costPart}
+use Rattle.frame.specs.Services.{Place, partAt, linkPlace, linkPart, costPlace, costPart}
 use Rattle.frame.specs.AnswerMeaning.{Certified}
 use Rattle.optimum.specs.Optimum.{Answer}
 use Rattle.leb128.specs.Number.{encode}
@@ -28,3 +28,15 @@ pub record CostFound (s f : List ℕ) (e : ℕ) (part : List ℕ) : Type 0 where
   pub refused : refusal s ≢ 0 → part ≡ []
   pub past : length (jobOf s .links) ≤ e → part ≡ []
   pub no-answer : refusal s ≡ 0 → (((a : Answer) × Certified (jobOf s) f a) → ⊥) → part ≡ []
+
+-- Where link e's bytes stand in the frame s, and where its new cost stands in the frame f: inside that frame, as the
+-- definitions say, and there the finders' parts stand.
+pub record LinkLocated (s : List ℕ) (e : ℕ) (place : Place) : Type 0 where
+  pub is : place ≡ linkPlace (refusal s) s e
+  pub within : place .offset + place .size ≤ length s
+  pub found : LinkFound s e (partAt place s)
+
+pub record CostLocated (s f : List ℕ) (e : ℕ) (place : Place) : Type 0 where
+  pub is : place ≡ costPlace s f e
+  pub within : place .offset + place .size ≤ length f
+  pub found : CostFound s f e (partAt place f)

@@ -1,20 +1,31 @@
--- `service::find::find_link` meets its contract: the finder's core is handed what the six questions said. Assumes nothing.
-use Rattle.service.specs.PartLaws.{header-read, link-found}
+-- `service::find::find_link` meets its contract: the part at the place that was found. Assumes nothing.
+use native.Mathlib.Omega.{arith}
+use Rattle.job.specs.Finding.{placeOf}
+use Rattle.service.specs.Parts.{LinkFound}
+use Rattle.service.specs.PartLaws.{between-ends}
 use borrow.Author.Needs.{needs}
 use Rattle.service.proofs.find.find_link.Statement.{statement}
 use Rattle.service.proofs.find.find_link.Tie as tie
 
-accept-requires : tie.Need-accept-requires
-accept-requires c κs = search needs
+locate-link-requires : tie.Need-locate-link-requires
+locate-link-requires c κs = search needs
 
-find-link-requires : tie.Need-find-link-requires
-find-link-requires c κs = header-read (c .before .before .before .before .before .before .before .before .args .frame .now) (c .accept .result) (c .accept .ensures .0)
+add-end : tie.Need-add-end
+add-end c = omega (arith, c .before .locate-link .ensures .within)
+
+sub-result : tie.Need-sub-result
+sub-result c = search needs
+
+part-result-start : tie.Need-part-result-start
+part-result-start c = search needs
+
+part-result-end : tie.Need-part-result-end
+part-result-end c = c .before .locate-link .ensures .within
 
 returns : tie.Need-returns
-returns c =
-    let t = c .before in
-    let a = t .before .before .before .before .before .before .before .before .args in
-    link-found (a .frame .now) (λ i. t .before .before .before .before .before .before .before .shared-slice-known .given i .fits) (t .accept .result) (t .accept .ensures .0) (a .edge .0) _ (c .find-link .ensures)
+returns c = between-ends (LinkFound (c .before .before .before .before .args .frame .now) (c .before .before .before .before .args .edge .0)) (c .before .before .before .before .args .frame .now) (placeOf (c .before .before .locate-link .result)) (c .before .before .locate-link .ensures .found)
 
 pub find-link-spec : {M : Type 1} → statement M
-find-link-spec = tie.close (tie.spec accept-requires find-link-requires returns)
+find-link-spec =
+    tie.close
+    (tie.spec locate-link-requires add-end sub-result part-result-start part-result-end returns)

@@ -1,8 +1,8 @@
--- `answer_read::find_cost` meets its contract: the part lies between the position behind the numbers before the cost and the
+-- `answer_read::locate_cost` meets its contract: the cost lies between the position behind the numbers before the cost and the
 -- one behind it. Assumes nothing.
-use Prim.Native.Nat.{ℕ, _-_, _≤_}
+use Prim.Native.Nat.{ℕ, _+_, _-_, _≤_}
 use native.Mathlib.Omega.{arith}
-use mathlib.Core.Path.{_≡_, sym, _∙_}
+use mathlib.Core.Path.{_≡_, sym, ap, _∙_}
 use mathlib.Core.List.{List}
 use lib.ListN.{length, take, drop, length-drop}
 use lib.Seq.{take-all}
@@ -11,9 +11,9 @@ use Rattle.leb128.specs.Number.{readAt}
 use Rattle.leb128.specs.declared.Number.the-variants.{Value}
 use Rattle.frame.specs.Job.{stepBytes}
 use Rattle.answer_read.specs.AnswerLaws.{steps-within}
-use Rattle.answer_read.specs.CostLaws.{steps-found, cost-order, cost-within, cost-part}
-use Rattle.answer_read.proofs.find_cost.Statement.{statement}
-use Rattle.answer_read.proofs.find_cost.Tie as tie
+use Rattle.answer_read.specs.CostLaws.{steps-found, cost-order, cost-within, cost-place}
+use Rattle.answer_read.proofs.locate_cost.Statement.{statement}
+use Rattle.answer_read.proofs.locate_cost.Tie as tie
 
 -- the frame, the link, the steps and the part behind them
 abbrev frame-of : tie.After-steps → List ℕ
@@ -49,17 +49,8 @@ enum-known-steps c = search needs
 enum-told : tie.Need-enum-told
 enum-told c = search needs
 
-sub-result : tie.Need-sub-result
-sub-result c = search needs
-
-part-result-start : tie.Need-part-result-start
-part-result-start c = search needs
-
-part-result-end : tie.Need-part-result-end
-part-result-end c = search needs
-
 returns : tie.Need-returns
-returns c k = absurd (steps-found _ _ k (sym (c .before .before .before .read .ensures) ∙ c .before .enum-told .given .1))
+returns c = (λ k. absurd (steps-found _ _ k (sym (c .before .before .read .ensures) ∙ c .enum-told .given .1)), omega arith)
 
 sub-part : tie.Need-sub-part
 sub-part c = steps-within _ _ _ (steps (c .before))
@@ -79,37 +70,39 @@ skip-requires-2 c κs = search needs
 order : (c : tie.After-skip2) → c .before .skip .result ≤ c .skip2 .result
 order c = cost-order (frame-of (steps-of c)) (edge-of (steps-of c)) (steps-of c .before .before .before .before .pre) (value-of (steps-of c)) (behind-of (steps-of c)) (steps (steps-of c)) (part-of (steps-of c)) (part-is (steps-of c)) (c .before .skip .result) (c .skip2 .result) (c .before .skip .ensures) (c .skip2 .ensures)
 
-sub-result-2 : tie.Need-sub-result-2
-sub-result-2 c = order c
+-- the cost ends within the frame
+within : (c : tie.After-skip2) → behind-of (steps-of c) + c .skip2 .result ≤ length (frame-of (steps-of c))
+within c =
+    let f = steps-of c in
+    let inside = cost-within (frame-of f) (edge-of f) (f .before .before .before .before .pre) (value-of f) (behind-of f) (steps f) (part-of f) (part-is f) (c .before .skip .result) (c .skip2 .result) (c .before .skip .ensures) (c .skip2 .ensures) in
+    omega (arith, inside, ap length (part-is f), length-drop (behind-of f) (frame-of f), steps-within _ _ _ (steps f))
 
-part-result-start-2 : tie.Need-part-result-start-2
-part-result-start-2 c = order c
+add-t9 : tie.Need-add-t9
+add-t9 c = omega (arith, order c, within c)
 
-part-result-end-2 : tie.Need-part-result-end-2
-part-result-end-2 c = cost-within (frame-of (steps-of c)) (edge-of (steps-of c)) (steps-of c .before .before .before .before .pre) (value-of (steps-of c)) (behind-of (steps-of c)) (steps (steps-of c)) (part-of (steps-of c)) (part-is (steps-of c)) (c .before .skip .result) (c .skip2 .result) (c .before .skip .ensures) (c .skip2 .ensures)
+sub-t11 : tie.Need-sub-t11
+sub-t11 c = order c
 
 returns-2 : tie.Need-returns-2
-returns-2 r k =
-    let c = r .before in
-    cost-part (frame-of (steps-of c)) (edge-of (steps-of c)) k (value-of (steps-of c)) (behind-of (steps-of c)) (steps (steps-of c)) (part-of (steps-of c)) (part-is (steps-of c)) (c .before .skip .result) (c .skip2 .result) (c .before .skip .ensures) (c .skip2 .ensures)
+returns-2 c =
+    let f = steps-of c in (
+      λ k. cost-place (frame-of f) (edge-of f) k (value-of f) (behind-of f) (steps f) (part-of f) (part-is f) (c .before .skip .result) (c .skip2 .result) (c .before .skip .ensures) (c .skip2 .ensures),
+      omega (arith, order c, within c),
+    )
 
-pub find-cost-spec : {M : Type 1} → statement M
-find-cost-spec =
+pub locate-cost-spec : {M : Type 1} → statement M
+locate-cost-spec =
     tie.close
     (tie.spec
     read-requires
     enum-known-steps
     enum-told
-    sub-result
-    part-result-start
-    part-result-end
     returns
     sub-part
     part-part-start
     part-part-end
     skip-requires
     skip-requires-2
-    sub-result-2
-    part-result-start-2
-    part-result-end-2
+    add-t9
+    sub-t11
     returns-2)

@@ -1,0 +1,3 @@
+-- Links lent as a list of records: what is copied of the list, what is asked of its numbers, and the laws.
+pub mod Records
+pub mod RecordsLaws

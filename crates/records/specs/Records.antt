@@ -1,0 +1,35 @@
+-- Links lent as a list of records: the first ones with zeros behind the last, and whether every number is small.
+-- Definitions only. Assumes nothing.
+use Prim.Native.Nat.{ℕ, _-_}
+use mathlib.Core.Bool.{Bool, _&&_}
+use mathlib.Core.List.{List, _++_, map}
+use lib.ListN.{length, getD, take, drop, replicate}
+use lib.Dec.{leb}
+use Rattle.loops.specs.Loop.{allBelow}
+use Rattle.records.specs.declared.Link.{Link}
+
+abbrev pub zeroLink : Link
+zeroLink = record { end1 = 0; end2 = 0; cost = 0; mark = 0 }
+
+-- The first n links of a list, zeros behind the last.
+unfoldable pub firsts : ℕ → List Link → List Link
+firsts n ys = take n ys ++ replicate (n - length ys) zeroLink
+
+-- An array of n zeros into which the first i links of a list were put.
+unfoldable pub copied : ℕ → ℕ → List Link → List Link
+copied n i ys = take i ys ++ replicate (n - i) zeroLink
+
+-- A list of numbers of which the first i were replaced by one number of each of the first i links.
+unfoldable pub filled : (Link → ℕ) → ℕ → List Link → List ℕ → List ℕ
+filled f i ys old = take i (map f ys) ++ drop i old
+
+-- No number of a link is above 16,383 (question 1).
+abbrev pub smallLink : Link → Bool
+smallLink l = leb (l .end1) 16383 && leb (l .end2) 16383 && leb (l .cost) 16383 && leb (l .mark) 16383
+
+-- No number of the first n links of a list is, and none of all its links.
+abbrev pub smallTo : ℕ → List Link → Bool
+smallTo n ys = allBelow n λ e. smallLink (getD ys e zeroLink)
+
+abbrev pub allSmall : List Link → Bool
+allSmall ys = smallTo (length ys) ys

@@ -1,0 +1,123 @@
+-- Laws of links lent as a list: what the copy holds, and one more link copied or tested.
+-- Assumes nothing.
+use Prim.Native.Nat.{ℕ, zero, suc, _+_, _<_, _≤_, min}
+use native.Mathlib.Nat.{sub-zero, zero-sub, suc-sub-suc, min-zero, zero-min, suc-min-suc}
+use native.Mathlib.Omega.{arith}
+use mathlib.Core.Path.{_≡_, refl, sym, ap, _∙_}
+use mathlib.Core.Bool.{true, false, _&&_}
+use mathlib.Core.List.{List, [], _∷_, map}
+use lib.ListN.{length, getD, set, replicate, length-replicate, getD-replicate, length-map, List·getD-map}
+use lib.Dec.{leb}
+use borrow.Author.Tests.{le-leb, lt-leb}
+use Rattle.loops.specs.Loop.{allBelow}
+use Rattle.records.specs.declared.Link.{Link}
+use Rattle.records.specs.Records.{zeroLink, firsts, copied, filled, smallLink, smallTo}
+
+-- No link yet, one more, and as many as the list and the array allow.
+pub copied-none : (n : ℕ) (ys : List Link) → copied n 0 ys ≡ replicate n zeroLink
+unfolding copied
+copied-none n ys = ap (λ (k : ℕ). replicate k zeroLink) (sub-zero n)
+
+one-more : (i : ℕ) → i + 1 ≡ suc i
+one-more i = omega arith
+
+more : (n i : ℕ) (ys : List Link) → i < n → i < length ys → set (copied n i ys) i (getD ys i zeroLink) ≡ copied n (suc i) ys
+unfolding copied
+more zero i ys l k = absurd (omega arith)
+more (suc n) zero [] l k = absurd (omega arith)
+more (suc n) zero (y ∷ ys) l k = rw (sub-zero (suc n), suc-sub-suc n 0, sub-zero n) refl
+more (suc n) (suc i) [] l k = absurd (omega arith)
+more (suc n) (suc i) (y ∷ ys) l k =
+    rw (suc-sub-suc n i, suc-sub-suc n (suc i)) (ap {B = List Link} (λ r. y ∷ r) (more n i ys (omega arith) (omega arith)))
+
+pub copied-more : (n i : ℕ) (ys : List Link) → i < n → i < length ys → set (copied n i ys) i (getD ys i zeroLink) ≡ copied n (i + 1) ys
+copied-more n i ys l k = more n i ys l k ∙ ap (λ (j : ℕ). copied n j ys) (sym (one-more i))
+
+pub copied-all : (n : ℕ) (ys : List Link) → copied n (min (length ys) n) ys ≡ firsts n ys
+unfolding copied firsts
+copied-all zero ys = rw (min-zero (length ys), zero-sub (length ys)) refl
+copied-all (suc n) [] = rw (zero-min (suc n)) refl
+copied-all (suc n) (y ∷ ys) = rw (suc-min-suc (length ys) n, suc-sub-suc n (length ys), suc-sub-suc n (min (length ys) n)) (ap {B = List Link} (λ r. y ∷ r) (copied-all n ys))
+
+pub copied-length : (n i : ℕ) (ys : List Link) → i ≤ n → i ≤ length ys → length (copied n i ys) ≡ n
+unfolding copied
+copied-length n zero ys l k = rw (sub-zero n) (length-replicate n zeroLink)
+copied-length n (suc i) [] l k = absurd (omega arith)
+copied-length zero (suc i) (y ∷ ys) l k = absurd (omega arith)
+copied-length (suc n) (suc i) (y ∷ ys) l k = rw (suc-sub-suc n i) (ap suc (copied-length n i ys (omega arith) (omega arith)))
+
+-- The copy has n links: those of the list as far as it goes, then zeros.
+pub firsts-length : (n : ℕ) (ys : List Link) → length (firsts n ys) ≡ n
+unfolding firsts
+firsts-length zero ys = rw (zero-sub (length ys)) refl
+firsts-length (suc n) [] = rw (sub-zero (suc n)) (ap suc (length-replicate n zeroLink))
+firsts-length (suc n) (y ∷ ys) = rw (suc-sub-suc n (length ys)) (ap suc (firsts-length n ys))
+
+pub firsts-at : (n : ℕ) (ys : List Link) (e : ℕ) → e < n → getD (firsts n ys) e zeroLink ≡ getD ys e zeroLink
+unfolding firsts
+firsts-at zero ys e l = absurd (omega arith)
+firsts-at (suc n) [] e l = rw (sub-zero (suc n)) (getD-replicate (suc n) e zeroLink zeroLink l)
+firsts-at (suc n) (y ∷ ys) zero l = refl
+firsts-at (suc n) (y ∷ ys) (suc e) l = rw (suc-sub-suc n (length ys)) (firsts-at n ys e (omega arith))
+
+-- One number of each link of the copy.
+pub column-length : (f : Link → ℕ) (n : ℕ) (ys : List Link) → length (map f (firsts n ys)) ≡ n
+column-length f n ys = length-map (firsts n ys) f ∙ firsts-length n ys
+
+pub column-at : (f : Link → ℕ) → f zeroLink ≡ 0 → (n : ℕ) (ys : List Link) (e : ℕ) → e < n → getD (map f (firsts n ys)) e 0 ≡ f (getD ys e zeroLink)
+column-at f z n ys e l = ap (getD (map f (firsts n ys)) e) (sym z) ∙ List·getD-map f (firsts n ys) e zeroLink ∙ ap f (firsts-at n ys e l)
+
+-- One number of each link, put into a list of numbers: none yet, one more, and all.
+pub filled-none : (f : Link → ℕ) (ys : List Link) (old : List ℕ) → old ≡ filled f 0 ys old
+unfolding filled
+filled-none f ys old = refl
+
+more-filled :
+    (f : Link → ℕ) (i : ℕ) (ys : List Link) (old : List ℕ) → i < length ys → i < length old → set (filled f i ys old) i (f (getD ys i zeroLink)) ≡ filled f (suc i) ys old
+unfolding filled
+more-filled f i [] old l k = absurd (omega arith)
+more-filled f i (y ∷ ys) [] l k = absurd (omega arith)
+more-filled f zero (y ∷ ys) (x ∷ old) l k = refl
+more-filled f (suc i) (y ∷ ys) (x ∷ old) l k = ap {B = List ℕ} (λ r. f y ∷ r) (more-filled f i ys old (omega arith) (omega arith))
+
+all-filled : (f : Link → ℕ) (n : ℕ) (ys : List Link) (old : List ℕ) → length ys ≡ n → length old ≡ n → filled f n ys old ≡ map f ys
+unfolding filled
+all-filled f zero [] [] l k = refl
+all-filled f zero [] (x ∷ old) l k = absurd (omega (arith, k))
+all-filled f zero (y ∷ ys) old l k = absurd (omega (arith, l))
+all-filled f (suc n) [] old l k = absurd (omega (arith, l))
+all-filled f (suc n) (y ∷ ys) [] l k = absurd (omega (arith, k))
+all-filled f (suc n) (y ∷ ys) (x ∷ old) l k = ap {B = List ℕ} (λ r. f y ∷ r) (all-filled f n ys old (omega (arith, l)) (omega (arith, k)))
+
+module _ (f : Link → ℕ) (n i : ℕ) (ys : List Link) (old now : List ℕ) (l : length ys ≡ n) (k : length old ≡ n) (so : now ≡ filled f i ys old) where
+  pub filled-more : i < n → set now i (f (getD ys i zeroLink)) ≡ filled f (i + 1) ys old
+  filled-more h =
+      ap (λ (r : List ℕ). set r i (f (getD ys i zeroLink))) so ∙
+      more-filled f i ys old (omega (arith, l)) (omega (arith, k)) ∙
+      ap (λ (j : ℕ). filled f j ys old) (sym (one-more i))
+
+  pub filled-all : i ≡ n → now ≡ map f ys
+  filled-all h = so ∙ ap (λ (j : ℕ). filled f j ys old) h ∙ all-filled f n ys old l k
+
+-- No link tested, and one more.
+pub small-none : (ys : List Link) → true ≡ smallTo 0 ys
+unfolding allBelow
+small-none ys = refl
+
+pub small-more : (i : ℕ) (ys : List Link) → smallTo (i + 1) ys ≡ (smallTo i ys && smallLink (getD ys i zeroLink))
+unfolding allBelow
+small-more i ys = rw (one-more i) refl
+
+-- The test of one link, in the code's order.
+module _ (l : Link) where
+  pub large-end1 : 16383 < l .end1 → smallLink l ≡ false
+  large-end1 h = rw (lt-leb (l .end1) 16383 h)
+
+  pub large-end2 : l .end1 ≤ 16383 → 16383 < l .end2 → smallLink l ≡ false
+  large-end2 k₁ h = rw (le-leb (l .end1) 16383 k₁, lt-leb (l .end2) 16383 h)
+
+  pub large-cost : l .end1 ≤ 16383 → l .end2 ≤ 16383 → 16383 < l .cost → smallLink l ≡ false
+  large-cost k₁ k₂ h = rw (le-leb (l .end1) 16383 k₁, le-leb (l .end2) 16383 k₂, lt-leb (l .cost) 16383 h)
+
+  pub mark-decides : l .end1 ≤ 16383 → l .end2 ≤ 16383 → l .cost ≤ 16383 → smallLink l ≡ leb (l .mark) 16383
+  mark-decides k₁ k₂ k₃ = rw (le-leb (l .end1) 16383 k₁, le-leb (l .end2) 16383 k₂, le-leb (l .cost) 16383 k₃)

@@ -1,0 +1,110 @@
+// Links as records, lent as a list: the first 256 are copied into an array, and every number is tested. The borrow
+// checker does not cover a function over such a list: `load` and `all_small` are proved by hand, and kept small.
+ghost use mathlib.Core.Path.{_≡_};
+ghost use Prim.Native.Nat.{min};
+ghost use mathlib.Core.Bool.{_&&_};
+ghost use mathlib.Core.List.{map};
+ghost use lib.ListN.{length};
+ghost use Rattle.records.specs.Records.{firsts, smallLink, allSmall};
+
+#[repr(C)]
+pub struct Link {
+    pub end1: u32,
+    pub end2: u32,
+    pub cost: u32,
+    pub mark: u32,
+}
+
+// Every number of the link is at most 16,383.
+fn small(l: Link) -> bool
+    ensures { λ r. ⌜ r ≡ smallLink l ⌝ }
+{
+    if 16383 < l.end1 {
+        return false;
+    }
+    if 16383 < l.end2 {
+        return false;
+    }
+    if 16383 < l.cost {
+        return false;
+    }
+    l.mark <= 16383
+}
+
+// The links so far were small, and so is this one.
+fn still_small(sofar: bool, l: Link) -> bool
+    ensures { λ r. ⌜ r ≡ (sofar && smallLink l) ⌝ }
+{
+    if sofar {
+        return small(l);
+    }
+    false
+}
+
+// Every number of every link of the list is at most 16,383.
+pub fn all_small(list: &[Link]) -> bool
+    ensures { λ r. ⌜ r ≡ allSmall (now (list .entry)) ⌝ }
+{
+    let n = list.len();
+    let mut sofar = true;
+    let mut i = 0;
+    while i < n {
+        sofar = still_small(sofar, list[i]);
+        i = i + 1;
+    }
+    sofar
+}
+
+// How many of so many links the array holds.
+fn held(n: usize) -> usize
+    ensures { λ r. ⌜ r ≡ min n 256 ⌝ }
+{
+    if n < 256 {
+        return n;
+    }
+    256
+}
+
+// The first 256 links of the list, zeros behind the last.
+pub fn load(list: &[Link]) -> [Link; 256]
+    ensures { λ r. ⌜ r ≡ firsts 256 (now (list .entry)) ⌝ }
+{
+    let n = held(list.len());
+    let mut links = [Link {
+        end1: 0,
+        end2: 0,
+        cost: 0,
+        mark: 0,
+    }; 256];
+    let mut i = 0;
+    while i < n {
+        links[i] = list[i];
+        i = i + 1;
+    }
+    links
+}
+
+// Each number of the links into an array of its own.
+pub fn spread(
+    links: [Link; 256],
+    end1: &mut [u32; 256],
+    end2: &mut [u32; 256],
+    cost: &mut [u32; 256],
+    mark: &mut [u32; 256],
+)
+    requires { ⌜ (length (now end1) ≡ 256) × (length (now end2) ≡ 256) × (length (now cost) ≡ 256) × (length (now mark) ≡ 256) ⌝ }
+    ensures end1 { λ _. ⌜ now (end1 .exit) ≡ map (λ l. l .end1) links ⌝ }
+    ensures end2 { λ _. ⌜ now (end2 .exit) ≡ map (λ l. l .end2) links ⌝ }
+    ensures cost { λ _. ⌜ now (cost .exit) ≡ map (λ l. l .cost) links ⌝ }
+    ensures mark { λ _. ⌜ now (mark .exit) ≡ map (λ l. l .mark) links ⌝ }
+{
+    let mut i: usize = 0;
+    while i < 256 {
+        let l = links[i];
+        end1[i] = l.end1;
+        end2[i] = l.end2;
+        cost[i] = l.cost;
+        mark[i] = l.mark;
+        i += 1;
+    }
+}
