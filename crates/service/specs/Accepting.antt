@@ -6,6 +6,7 @@ use lib.ListN.{length, getD, take}
 use Rattle.graph.specs.Rank.{treeRanks}
 use Rattle.frame.specs.Job.{Job, link, graphOf, treeOf, costOf}
 use Rattle.frame.specs.Questions.{jobOf, refusal}
+use Rattle.leb128.specs.Number.{Bytes}
 use Rattle.tree.specs.Arrays.{Ranked, Walked}
 use Rattle.job.specs.declared.read.Header.{Header}
 use Rattle.job.specs.Reading.{header}
@@ -34,3 +35,13 @@ pub record Held (j : Job) (as₁ as₂ as₃ as₄ ts mask : List ℕ) : Type 0 
   pub ranks-places : length ts ≡ 256
   pub ranked : Ranked (j .nodes) (j .nodes - 1) ts as₁ as₂
   pub walked : Walked (j .nodes) (j .nodes - 1) ts as₁ as₂ (j .nodes) mask
+
+-- The frame s has been asked questions 1 to 6: what they said, and an accepted job in arrays.
+pub record Asked (s : List ℕ) (h : Header) (as₁ as₂ as₃ as₄ ts mask : List ℕ) : Type 0 where
+  pub bytes : Bytes s
+  pub header-is : h ≡ acceptedHeader s
+  pub held : h .refusal ≡ 0 → Held (jobOf s) as₁ as₂ as₃ as₄ ts mask
+
+-- Where they have accepted, there is such a frame.
+abbrev pub AskedSome : Header → List ℕ → List ℕ → List ℕ → List ℕ → List ℕ → List ℕ → Type 0
+AskedSome h as₁ as₂ as₃ as₄ ts mask = h .refusal ≡ 0 → (s : List ℕ) × Asked s h as₁ as₂ as₃ as₄ ts mask

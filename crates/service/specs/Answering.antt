@@ -33,3 +33,9 @@ pub record Answered (s area : List ℕ) (r : Reply) (after : List ℕ) : Type 0 
   -- a refusal writes nothing
   pub refused : r .refusal ≢ 0 → (r .length ≡ 0) × (after ≡ area)
   pub done : r .refusal ≡ 0 → Delivered s area (r .length) after
+
+-- A refusal: its number, no length, and the area as it was.
+pub record Untouched (refusal : ℕ) (area : List ℕ) (r : Reply) (after : List ℕ) : Type 0 where
+  pub number : r .refusal ≡ refusal
+  pub nothing : r .length ≡ 0
+  pub same : after ≡ area

@@ -4,6 +4,7 @@ pub mod AcceptLaws
 pub mod ArrayLaws
 pub mod Verdicts
 pub mod VerdictLaws
+pub mod AskedLaws
 pub mod Parts
 pub mod PartLaws
 pub mod Lists

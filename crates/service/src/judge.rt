@@ -1,6 +1,13 @@
-// Judges the marked tree of a job frame.
+// Judges the marked tree of a job.
+ghost use mathlib.Core.Path.{_≡_};
+ghost use mathlib.Core.Logic.{_≢_};
+ghost use mathlib.Core.List.{List};
+ghost use Prim.Native.Nat.{ℕ};
+ghost use Rattle.service.specs.Accepting.{Asked, AskedSome};
 ghost use Rattle.service.specs.Verdicts.{TreeJudged};
+ghost use Rattle.service.specs.declared.judge.Verdict.the-variants.{Refused};
 use crate::accept::accept;
+use job::read::Header;
 
 // What a judge says: yes, no, or the first refusal of questions 1 to 6.
 pub enum Verdict {
@@ -9,7 +16,33 @@ pub enum Verdict {
     Refused(u32),
 }
 
-// Is the marked tree cheapest?
+// Is the marked tree of a job in arrays cheapest?
+pub fn judge_held(
+    header: Header,
+    end1: &[u32; 256],
+    end2: &[u32; 256],
+    cost: &[u32; 256],
+    mark: &[u32; 256],
+    ts: &[u32; 256],
+    mask: &[u64; 64],
+) -> Verdict
+    requires { ⌜ AskedSome header (now end1) (now end2) (now cost) (now mark) (now ts) (now mask) ⌝ }
+    ensures judged { λ r. ⌜ ((s : List ℕ) → Asked s header (now (end1 .entry)) (now (end2 .entry)) (now (cost .entry)) (now (mark .entry)) (now (ts .entry)) (now (mask .entry)) → TreeJudged s r) ⌝ }
+    ensures refused { λ r. ⌜ (header .refusal ≢ 0 → r ≡ Refused (header .refusal)) ⌝ }
+{
+    let refusal = header.refusal;
+    if refusal != 0 {
+        return Verdict::Refused(refusal);
+    }
+    let edges = header.edges as usize;
+    let count = header.nodes as usize - 1;
+    if tree::judge(edges, ts, count, end1, end2, cost, mark, mask) {
+        return Verdict::Yes;
+    }
+    Verdict::No
+}
+
+// Is the marked tree of a job frame cheapest?
 pub fn judge(frame: &[u8]) -> Verdict
     ensures { λ r. ⌜ TreeJudged (now (frame .entry)) r ⌝ }
 {
@@ -28,14 +61,5 @@ pub fn judge(frame: &[u8]) -> Verdict
         &mut ts,
         &mut mask,
     );
-    let refusal = header.refusal;
-    if refusal != 0 {
-        return Verdict::Refused(refusal);
-    }
-    let edges = header.edges as usize;
-    let count = header.nodes as usize - 1;
-    if tree::judge(edges, &ts, count, &end1, &end2, &cost, &mark, &mask) {
-        return Verdict::Yes;
-    }
-    Verdict::No
+    judge_held(header, &end1, &end2, &cost, &mark, &ts, &mask)
 }

@@ -1,9 +1,43 @@
 // Judges answer frames made elsewhere.
+ghost use mathlib.Core.Path.{_≡_};
+ghost use mathlib.Core.Logic.{_≢_};
+ghost use mathlib.Core.List.{List};
+ghost use Prim.Native.Nat.{ℕ};
+ghost use Rattle.service.specs.Accepting.{Asked, AskedSome};
 ghost use Rattle.service.specs.Verdicts.{AnswerJudged};
+ghost use Rattle.service.specs.declared.judge.Verdict.the-variants.{Refused};
 use crate::accept::accept;
 use crate::judge::Verdict;
+use job::read::Header;
 
-// Does the second frame hold an answer to the job of the first, with its costs and its pairing?
+// Does a frame hold an answer to a job in arrays, with its costs and its pairing?
+pub fn judge_answer_held(
+    header: Header,
+    end1: &[u32; 256],
+    end2: &[u32; 256],
+    cost: &[u32; 256],
+    mark: &[u32; 256],
+    ts: &[u32; 256],
+    mask: &[u64; 64],
+    offered: &[u8],
+) -> Verdict
+    requires { ⌜ AskedSome header (now end1) (now end2) (now cost) (now mark) (now ts) (now mask) ⌝ }
+    ensures judged { λ r. ⌜ ((s : List ℕ) → Asked s header (now (end1 .entry)) (now (end2 .entry)) (now (cost .entry)) (now (mark .entry)) (now (ts .entry)) (now (mask .entry)) → AnswerJudged s (now (offered .entry)) r) ⌝ }
+    ensures refused { λ r. ⌜ (header .refusal ≢ 0 → r ≡ Refused (header .refusal)) ⌝ }
+{
+    let refusal = header.refusal;
+    if refusal != 0 {
+        return Verdict::Refused(refusal);
+    }
+    let edges = header.edges as usize;
+    let count = header.nodes as usize - 1;
+    if certify::judge_answer(offered, edges, ts, count, end1, end2, cost, mark, mask) {
+        return Verdict::Yes;
+    }
+    Verdict::No
+}
+
+// Does the second frame hold an answer to the job of the first?
 pub fn judge_answer(frame: &[u8], offered: &[u8]) -> Verdict
     ensures { λ r. ⌜ AnswerJudged (now (frame .entry)) (now (offered .entry)) r ⌝ }
 {
@@ -22,24 +56,5 @@ pub fn judge_answer(frame: &[u8], offered: &[u8]) -> Verdict
         &mut ts,
         &mut mask,
     );
-    let refusal = header.refusal;
-    if refusal != 0 {
-        return Verdict::Refused(refusal);
-    }
-    let edges = header.edges as usize;
-    let count = header.nodes as usize - 1;
-    if certify::judge_answer(
-        offered,
-        edges,
-        &ts,
-        count,
-        &end1,
-        &end2,
-        &cost,
-        &mark,
-        &mask,
-    ) {
-        return Verdict::Yes;
-    }
-    Verdict::No
+    judge_answer_held(header, &end1, &end2, &cost, &mark, &ts, &mask, offered)
 }
