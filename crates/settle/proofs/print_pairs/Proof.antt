@@ -7,10 +7,10 @@ use Rattle.settle.proofs.print_pairs.Statement.{statement}
 use Rattle.settle.proofs.print_pairs.Tie as tie
 
 abbrev Inv-loop : tie.InvT-loop
-Inv-loop area pairs count at₀ counter₀ at counter = counter ≤ count
+Inv-loop area count at₀ counter₀ at counter = counter ≤ count
 
 abbrev μ-loop : tie.MeasureT-loop
-μ-loop area pairs count at₀ counter₀ at counter = count - counter
+μ-loop area count at₀ counter₀ at counter = count - counter
 
 loop-holds : tie.Need-loop-holds Inv-loop μ-loop
 loop-holds c = omega arith
