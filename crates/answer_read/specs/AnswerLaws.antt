@@ -12,7 +12,7 @@ use lib.Seq.{sets, length-take-le, drop-cons}
 use borrow.Author.Tests.{eq-eqb, ne-eqb, le-leb, lt-leb}
 use Rattle.loops.specs.Loop.{gather, tabulate}
 use Rattle.loops.specs.GatherLaws.{length-tabulate, tabulate-getD}
-use Rattle.leb128.specs.Number.{Bytes, Decoded, decode, located, readAt}
+use Rattle.leb128.specs.Number.{Bytes, decode, readAt}
 use Rattle.leb128.specs.Number.Decoded.{number}
 use Rattle.leb128.specs.declared.Number.the-variants as Read
 use Rattle.leb128.specs.Laws.{decode-size, bytes-drop}
@@ -25,30 +25,20 @@ use Rattle.frame.specs.Division.{division}
 use Rattle.job.specs.declared.read.Taken.{Taken}
 use Rattle.job.specs.declared.read.Numbers.the-variants.{Count, Refused}
 use Rattle.job.specs.Reading.{takenAt, countFrom}
+use Rattle.job.specs.ReadingLaws.{located-value, located-refused}
+use Rattle.job.specs.CountLaws.{count-some, count-none}
 use Rattle.job.specs.LoadLaws.{Next, next-number}
-use Rattle.job.specs.FormLaws.{parts-join, drop-divides}
+use Rattle.job.specs.FormLaws.{parts-join, drop-divides, sets-at}
 use Rattle.answer_read.specs.declared.Contents.{Contents}
 use Rattle.answer_read.specs.Reading.{noContents, contents, Costs, costsAt, loadCosts, Pairs, pairsAt, loadPairs, pairIn, answerIn, few}
-use Rattle.answer_read.specs.LoadLaws.{load-costs, load-pairs, evens, odds, evens-at, odds-at, length-evens, length-odds, sets-at}
+use Rattle.answer_read.specs.LoadLaws.{load-costs, load-pairs, evens, odds, evens-at, odds-at, length-evens, length-odds}
 
 -- ---- the steps
 
-located-value : (d : Decoded) (v next : ℕ) → located 0 d ≡ Read.Value v next → d ≡ number v next
-unfolding located
-located-value (number w n) v next e =
-    let same : w ≡ v = cc in
-    let there : 0 + n ≡ next = cc in
-    let here : n ≡ next = omega arith in
-    rw (same, here)
-located-value Decoded.none v next e = let z : _≡_ {A = ℕ} 0 1 = cc in absurd (omega arith)
-
-located-refused : (d : Decoded) → located 0 d ≡ Read.Refused → d ≡ Decoded.none
-unfolding located
-located-refused (number w n) e = let z : _≡_ {A = ℕ} 0 1 = cc in absurd (omega arith)
-located-refused Decoded.none e = refl
-
 steps-read : (s : List ℕ) (v next : ℕ) → readAt stepBytes s 0 ≡ Read.Value v next → decode stepBytes s ≡ number v next
-steps-read s v next e = located-value (decode stepBytes s) v next e
+steps-read s v next e =
+    let (n, here, there) = located-value 0 (decode stepBytes s) v next e in
+    here ∙ ap (number v) (omega (arith, there))
 
 -- The steps end within the frame.
 pub steps-within : (s : List ℕ) (v next : ℕ) → readAt stepBytes s 0 ≡ Read.Value v next → next ≤ length s
@@ -57,21 +47,9 @@ steps-within s v next e = omega (arith, decode-size stepBytes s v next (steps-re
 -- No steps: no answer.
 pub answer-unread : (m : ℕ) (s : List ℕ) → readAt stepBytes s 0 ≡ Read.Refused → few (readAnswer m s) ≡ none
 unfolding few answerBehind
-answer-unread m s e = rw (located-refused (decode stepBytes s) e)
+answer-unread m s e = rw (located-refused 0 (decode stepBytes s) e)
 
 -- ---- the numbers behind them
-
-count-some : (o : Option (List ℕ)) (count : ℕ) → countFrom 0 o ≡ Count count → (ns : List ℕ) × (o ≡ some ns) × (length ns ≡ count)
-unfolding countFrom
-count-some (some ns) count e =
-    let same : 0 + length ns ≡ count = cc in
-    (ns, refl, omega arith)
-count-some none count e = let z : _≡_ {A = ℕ} 0 1 = cc in absurd (omega arith)
-
-count-none : (o : Option (List ℕ)) → countFrom 0 o ≡ Refused → o ≡ none
-unfolding countFrom
-count-none (some ns) e = let z : _≡_ {A = ℕ} 0 1 = cc in absurd (omega arith)
-count-none none e = refl
 
 tabulate-same : {A : Type 0} (n : ℕ) (f g : ℕ → A) → ((i : ℕ) → i < n → f i ≡ g i) → tabulate n f ≡ tabulate n g
 unfolding gather

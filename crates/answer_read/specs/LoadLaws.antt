@@ -3,8 +3,8 @@ use Prim.Native.Nat.{ℕ, zero, suc, _+_, _-_, _*_, _<_, _≤_}
 use native.Mathlib.Omega.{arith}
 use mathlib.Core.Path.{_≡_, refl, sym, ap, _∙_}
 use mathlib.Core.List.{List, [], _∷_, flatMap}
-use lib.ListN.{length, getD, set, take, drop, length-append, length-drop, List·getD-append}
-use lib.Seq.{sets, sets-eq}
+use lib.ListN.{length, getD, set, take, drop, length-append, length-drop}
+use lib.Seq.{sets}
 use Rattle.loops.specs.Loop.{scan}
 use Rattle.loops.specs.ScanLaws.{scan-turn}
 use Rattle.frame.specs.Job.{bytesOf}
@@ -106,7 +106,3 @@ length-odds zero (a ∷ ns) e = absurd (omega arith)
 length-odds (suc m) [] e = absurd (omega arith)
 length-odds (suc m) (a ∷ []) e = absurd (omega arith)
 length-odds (suc m) (a ∷ b ∷ ns) e = ap suc (length-odds m ns (omega arith))
-
--- What the first places of an array hold after a list was put there.
-pub sets-at : (xs l : List ℕ) (k : ℕ) → length xs ≤ length l → k < length xs → getD (sets l 0 xs) k 0 ≡ getD xs k 0
-sets-at xs l k h b = rw (sets-eq xs l 0 (omega arith)) (List·getD-append xs (drop (0 + length xs) l) 0 k b)

@@ -20,14 +20,14 @@ use Rattle.job.specs.declared.read.Numbers.the-variants.{Count, Refused}
 use Rattle.job.specs.Reading.{takenAt, countFrom, refusedCounts, countsOf}
 use Rattle.job.specs.LoadLaws.{Next, next-number}
 
-count-some : (o : Option (List ℕ)) (count : ℕ) → countFrom 0 o ≡ Count count → (ns : List ℕ) × (o ≡ some ns) × (length ns ≡ count)
+pub count-some : (o : Option (List ℕ)) (count : ℕ) → countFrom 0 o ≡ Count count → (ns : List ℕ) × (o ≡ some ns) × (length ns ≡ count)
 unfolding countFrom
 count-some (some ns) count e =
     let same : 0 + length ns ≡ count = cc in
     (ns, refl, omega arith)
 count-some none count e = let z : _≡_ {A = ℕ} 0 1 = cc in absurd (omega arith)
 
-count-none : (o : Option (List ℕ)) → countFrom 0 o ≡ Refused → o ≡ none
+pub count-none : (o : Option (List ℕ)) → countFrom 0 o ≡ Refused → o ≡ none
 unfolding countFrom
 count-none (some ns) e = let z : _≡_ {A = ℕ} 0 1 = cc in absurd (omega arith)
 count-none none e = refl

@@ -117,7 +117,7 @@ pub counts-refused : (s : List ℕ) (k : Counts) → k ≡ countsOf (numbers s) 
 counts-refused s k e z = refused-of s k e z (case-of s (numbers s) refl)
 
 -- What the first places of an array hold after a list was put there.
-sets-at : (xs l : List ℕ) (k : ℕ) → length xs ≤ length l → k < length xs → getD (sets l 0 xs) k 0 ≡ getD xs k 0
+pub sets-at : (xs l : List ℕ) (k : ℕ) → length xs ≤ length l → k < length xs → getD (sets l 0 xs) k 0 ≡ getD xs k 0
 sets-at xs l k h m = rw (sets-eq xs l 0 (omega arith)) (List·getD-append xs (drop (0 + length xs) l) 0 k m)
 
 pub column : (f : Edge → ℕ) → f noEdge ≡ 0 → (ls : List Edge) (l : List ℕ) (e : ℕ) → length ls ≤ length l → e < length ls → getD (sets l 0 (map f ls)) e 0 ≡ f (getD ls e noEdge)

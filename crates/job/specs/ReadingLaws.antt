@@ -25,7 +25,7 @@ use Rattle.job.specs.declared.read.Numbers.the-variants.{Count, Refused}
 use Rattle.job.specs.Reading.{taken, takenAt, countFrom, Loaded, loadLink, arrays, endsApart}
 
 -- What the reader of numbers says, in terms of what stands there.
-located-value : (at : ℕ) (d : Decoded) (v next : ℕ) → located at d ≡ Read.Value v next → (n : ℕ) × (d ≡ number v n) × (next ≡ at + n)
+pub located-value : (at : ℕ) (d : Decoded) (v next : ℕ) → located at d ≡ Read.Value v next → (n : ℕ) × (d ≡ number v n) × (next ≡ at + n)
 unfolding located
 located-value at (number w n) v next e =
     let same : w ≡ v = cc in
@@ -33,7 +33,7 @@ located-value at (number w n) v next e =
     (n, rw same, there)
 located-value at Decoded.none v next e = let z : _≡_ {A = ℕ} 0 1 = cc in absurd (omega arith)
 
-located-refused : (at : ℕ) (d : Decoded) → located at d ≡ Read.Refused → d ≡ Decoded.none
+pub located-refused : (at : ℕ) (d : Decoded) → located at d ≡ Read.Refused → d ≡ Decoded.none
 unfolding located
 located-refused at (number w n) e = let z : _≡_ {A = ℕ} 0 1 = cc in absurd (omega arith)
 located-refused at Decoded.none e = refl
