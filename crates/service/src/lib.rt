@@ -3,6 +3,7 @@
 pub mod accept;
 pub mod find;
 pub mod judge;
+pub mod read;
 pub mod reply;
 pub mod solve;
 pub mod verdict;
