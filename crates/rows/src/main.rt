@@ -1,6 +1,7 @@
-// Runs the remaining rows: refusals, areas that are just too short, the example of 13 steps, answers made elsewhere and
-// the finders. The rows T1 to T9 are proved (specs/Rows.antt).
+// Runs the remaining rows: refusals, areas that are just too short, the example of 13 steps, answers made elsewhere, the
+// finders and the reader. The rows T1 to T9 are proved (specs/Rows.antt).
 use ids::Edge;
+use records::Link;
 use service::judge::Verdict;
 
 fn print_byte(byte: u8) {
@@ -54,6 +55,42 @@ fn show_part(name: &[u8], part: &[u8]) {
     io::write_all(1, name);
     io::write_all(1, b":");
     print_bytes(part);
+}
+
+fn print_number(name: &[u8], number: u32) {
+    io::write_all(1, name);
+    io::print_decimal(1, number as u64);
+}
+
+// A link's four numbers, if it is there.
+fn print_link(there: bool, link: Link) {
+    if there {
+        print_number(b" (", link.end1);
+        print_number(b" ", link.end2);
+        print_number(b" ", link.cost);
+        print_number(b" ", link.mark);
+        io::write_all(1, b")");
+    }
+}
+
+fn print_links(count: usize, links: [Link; 256]) {
+    let mut i: usize = 0;
+    while i < 256 {
+        print_link(i < count, links[i]);
+        i += 1;
+    }
+    io::write_all(1, b"\n");
+}
+
+// Reads a frame into records, and shows them.
+fn show_read(name: &[u8], frame: &[u8]) {
+    let job = service::read::read_job(frame);
+    io::write_all(1, name);
+    print_number(b": refusal ", job.refusal);
+    print_number(b", stations ", job.nodes);
+    print_number(b", links ", job.count);
+    let links = job.links;
+    print_links(job.count as usize, links);
 }
 
 fn refusals() {
@@ -116,4 +153,6 @@ fn main() {
     answers(t1);
     verdicts(t1, other);
     parts(t1, other);
+    show_read(b"T1 read", t1);
+    show_read(b"T1's start read", b"\x03\x03");
 }
