@@ -37,6 +37,13 @@ pub fn both(v: u64, w: u64) -> u64
     v & w
 }
 
+// The members of either.
+pub fn either(v: u64, w: u64) -> u64
+    ensures { λ r. ⌜ ((j : ℕ) → bit r j ≡ (bit v j || bit w j)) ⌝ }
+{
+    v | w
+}
+
 // The members of one of the two only.
 pub fn differ(v: u64, w: u64) -> u64
     ensures { λ r. ⌜ ((j : ℕ) → bit r j ≡ xor (bit v j) (bit w j)) ⌝ }

@@ -1,6 +1,6 @@
 -- One origin: what its search has newly seen gets its label, and each way out of the code meets the model's.
 -- Assumes nothing.
-use Prim.Native.Nat.{ℕ, suc, _-_, _<_}
+use Prim.Native.Nat.{ℕ, suc, _-_}
 use native.Mathlib.Nat.{zero-add}
 use native.Mathlib.Omega.{arith}
 use mathlib.Core.Path.{_≡_, refl, sym, ap, ap₂, subst, _∙_, fun-ext}
@@ -14,6 +14,7 @@ use Rattle.optimum.specs.Search.{Problem, Search, seeSpare, search}
 use Rattle.optimum.specs.Lowest.{fresh, labelled, matched, labelTree, mateSearch, labelSpare}
 use Rattle.search.specs.State.{matesOf, stateOf, Swept}
 use Rattle.search.specs.SpareSteps.{state-spare}
+use Rattle.search.specs.ExploreSteps.{below-same, taken-same}
 use Rattle.matching.specs.AugmentSteps.{or-true}
 use Rattle.labels.specs.Store.{Store, labelsOf, Sized, Filled, SparesFilled, Relabelled, MateSwept, TreeLabelled, SpareLabelled}
 
@@ -40,14 +41,14 @@ model-labelled x b b′ h st e =
     ∙ ap (λ (z : Search). labelled x z (labelsOf b)) e
 
 -- The mate of a spare rank.
-module _ (s spares : ℕ) (rows mates : List ℕ) (trees : ℕ) (seen : List ℕ) where
+module _ (s : ℕ) (rows mates : List ℕ) (trees : ℕ) (seen : List ℕ) where
   stays : length mates ≡ 256 → length seen ≡ 4
       → ((p : Problem) → mateSearch p s (getD mates s 0) (stateOf mates trees seen false) ≡ stateOf mates trees seen false)
-      → MateSwept s spares rows mates trees seen mates trees seen
+      → MateSwept s rows mates trees seen mates trees seen
   stays l m h =
-      record { mates-length = l; seen-length = m; below = λ n b. b; same = λ p q. refl; equal = λ p q. sym (h p) }
+      record { mates-length = l; seen-length = m; same = refl; equal = λ p q. sym (h p) }
 
-  pub mate-none : length mates ≡ 256 → length seen ≡ 4 → getD mates s 0 ≡ 0 → MateSwept s spares rows mates trees seen mates trees seen
+  pub mate-none : length mates ≡ 256 → length seen ≡ 4 → getD mates s 0 ≡ 0 → MateSwept s rows mates trees seen mates trees seen
   unfolding mateSearch
   mate-none l m e = stays l m (λ p. rw e)
 
@@ -63,32 +64,31 @@ module _ (s spares : ℕ) (rows mates : List ℕ) (trees : ℕ) (seen : List ℕ
     unfolding mateSearch
     mate-goes p u e h = rw (e, h)
 
-    pub mate-seen : length mates ≡ 256 → length seen ≡ 4 → bit trees (getD mates s 0 - 1) ≡ true → MateSwept s spares rows mates trees seen mates trees seen
+    pub mate-seen : length mates ≡ 256 → length seen ≡ 4 → bit trees (getD mates s 0 - 1) ≡ true → MateSwept s rows mates trees seen mates trees seen
     mate-seen l m h = stays l m (λ p. mate-idle p (getD mates s 0 - 1) mate-is h)
 
     pub mate-explored : bit trees (getD mates s 0 - 1) ≡ false → (mates′ : List ℕ) (trees′ : ℕ) (seen′ : List ℕ)
-        → Swept (getD mates s 0 - 1) spares rows mates trees seen mates′ trees′ seen′ → MateSwept s spares rows mates trees seen mates′ trees′ seen′
+        → Swept (getD mates s 0 - 1) rows mates trees seen mates′ trees′ seen′ → MateSwept s rows mates trees seen mates′ trees′ seen′
     mate-explored h mates′ trees′ seen′ f =
         record {
           mates-length = f .mates-length;
           seen-length = f .seen-length;
-          below = λ n b. f .below n (omega (arith, b s)) b;
-          same = λ p q. f .same p q (omega (arith, q .below s));
+          same = f .same;
           equal = λ p q. f .equal p q (omega (arith, q .below s)) ∙ sym (mate-goes p (getD mates s 0 - 1) mate-is h);
         }
 
 -- A tree rank as an origin.
-module _ (t x spares matchedSet : ℕ) (rows : List ℕ) (b : Store) where
-  tree-stays : Sized b
+module _ (t x matchedSet : ℕ) (rows taken : List ℕ) (b : Store) where
+  tree-stays : Sized taken b
       → ((p : Problem) → bit matchedSet t ≡ matched p (matesOf (b .mates)) t → labelTree p (matesOf (b .mates)) t (labelsOf b) ≡ labelsOf b)
-      → TreeLabelled t x spares matchedSet rows b b
-  tree-stays z h = record { sized = z; below = λ n l c. c; same = λ p q l. refl; equal = λ p q l e m. sym (h p m) }
+      → TreeLabelled t x matchedSet rows taken b b
+  tree-stays z h = record { sized = z; same = refl; equal = λ p q l e m. sym (h p m) }
 
-  pub tree-matched : Sized b → bit matchedSet t ≡ true → TreeLabelled t x spares matchedSet rows b b
+  pub tree-matched : Sized taken b → bit matchedSet t ≡ true → TreeLabelled t x matchedSet rows taken b b
   unfolding labelTree
   tree-matched z h = tree-stays z (λ p m. rw (sym m ∙ h))
 
-  pub tree-done : Sized b → bit (b .trees) t ≡ true → TreeLabelled t x spares matchedSet rows b b
+  pub tree-done : Sized taken b → bit (b .trees) t ≡ true → TreeLabelled t x matchedSet rows taken b b
   unfolding labelTree
   tree-done z h = tree-stays z (λ p m. rw (h, or-true (matched p (matesOf (b .mates)) t)))
 
@@ -97,20 +97,20 @@ module _ (t x spares matchedSet : ℕ) (rows : List ℕ) (b : Store) where
   unfolding labelTree
   tree-model p e k = rw (e, k)
 
-  pub tree-labelled : Sized b → bit matchedSet t ≡ false → bit (b .trees) t ≡ false → t < 64 → (b′ : Store)
-      → Swept t spares rows (b .mates) (b .trees) (b .spares) (b′ .mates) (b′ .trees) (b′ .spares)
+  pub tree-labelled : Sized taken b → bit matchedSet t ≡ false → bit (b .trees) t ≡ false → (b′ : Store)
+      → Swept t rows (b .mates) (b .trees) (b .spares) (b′ .mates) (b′ .trees) (b′ .spares)
       → Relabelled x (b .trees) (b .spares) (b′ .trees) (b′ .spares) (b .tree-label) (b .spare-label) (b′ .tree-label) (b′ .spare-label)
-      → TreeLabelled t x spares matchedSet rows b b′
-  tree-labelled z h k rank b′ f g =
+      → TreeLabelled t x matchedSet rows taken b b′
+  tree-labelled z h k b′ f g =
       record {
         sized = record {
           mates-length = f .mates-length;
           spares-length = f .seen-length;
           tree-length = g .tree-length;
           spare-length = g .spare-length;
-          below = f .below 64 rank (z .below);
+          below = below-same (b .mates) (b′ .mates) (f .same) 64 (z .below);
+          taken-are = taken-same (b .mates) (b′ .mates) (f .same) taken (z .taken-are);
         };
-        below = f .below;
         same = f .same;
         equal = λ p q l e m.
             model-labelled x b b′ g (search p (p .spares) t (fresh (matesOf (b .mates)) (labelsOf b))) (f .equal p q l)
@@ -119,10 +119,10 @@ module _ (t x spares matchedSet : ℕ) (rows : List ℕ) (b : Store) where
       }
 
 -- A spare rank as an origin.
-module _ (s x spares : ℕ) (rows : List ℕ) (b : Store) where
-  pub spare-done : Sized b → member (b .spares) s ≡ true → SpareLabelled s x spares rows b b
+module _ (s x : ℕ) (rows taken : List ℕ) (b : Store) where
+  pub spare-done : Sized taken b → member (b .spares) s ≡ true → SpareLabelled s x rows taken b b
   unfolding labelSpare
-  spare-done z h = record { sized = z; below = λ n c. c; same = λ p q. refl; equal = λ p q e. sym (rw h) }
+  spare-done z h = record { sized = z; same = refl; equal = λ p q e. sym (rw h) }
 
   abbrev seenBy : Problem → Search
   seenBy p = mateSearch p s (matesOf (b .mates) s) (seeSpare s (fresh (matesOf (b .mates)) (labelsOf b)))
@@ -131,10 +131,10 @@ module _ (s x spares : ℕ) (rows : List ℕ) (b : Store) where
   unfolding labelSpare
   spare-model p h = rw h
 
-  pub spare-labelled : Sized b → member (b .spares) s ≡ false → (marked : List ℕ) → ((j : ℕ) → member marked j ≡ (member (b .spares) j || eqb s j)) → (b′ : Store)
-      → MateSwept s spares rows (b .mates) (b .trees) marked (b′ .mates) (b′ .trees) (b′ .spares)
+  pub spare-labelled : Sized taken b → member (b .spares) s ≡ false → (marked : List ℕ) → ((j : ℕ) → member marked j ≡ (member (b .spares) j || eqb s j)) → (b′ : Store)
+      → MateSwept s rows (b .mates) (b .trees) marked (b′ .mates) (b′ .trees) (b′ .spares)
       → Relabelled x (b .trees) (b .spares) (b′ .trees) (b′ .spares) (b .tree-label) (b .spare-label) (b′ .tree-label) (b′ .spare-label)
-      → SpareLabelled s x spares rows b b′
+      → SpareLabelled s x rows taken b b′
   spare-labelled z h marked more b′ f g =
       record {
         sized = record {
@@ -142,9 +142,9 @@ module _ (s x spares : ℕ) (rows : List ℕ) (b : Store) where
           spares-length = f .seen-length;
           tree-length = g .tree-length;
           spare-length = g .spare-length;
-          below = f .below 64 (z .below);
+          below = below-same (b .mates) (b′ .mates) (f .same) 64 (z .below);
+          taken-are = taken-same (b .mates) (b′ .mates) (f .same) taken (z .taken-are);
         };
-        below = f .below;
         same = f .same;
         equal = λ p q e.
             model-labelled x b b′ g (seenBy p) (f .equal p q ∙ ap (mateSearch p s (matesOf (b .mates) s)) (state-spare (b .mates) (b .trees) (b .spares) marked s more))

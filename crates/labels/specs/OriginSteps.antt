@@ -19,6 +19,7 @@ use Rattle.sets.specs.SetsLaws.{member-none}
 use Rattle.optimum.specs.Search.{Problem, Mates}
 use Rattle.optimum.specs.Lowest.{Labels, unlabelled, matched, labelTree, labelSpare, labelFrom, labels}
 use Rattle.search.specs.State.{matesOf, Below, Suits}
+use Rattle.search.specs.ExploreSteps.{below-same}
 use Rattle.matching.specs.Progress.{costAt, Holds}
 use Rattle.matching.specs.AugmentSteps.{or-false}
 use Rattle.labels.specs.Store.{Store, store, labelsOf, Sized, TreeLabelled, SpareLabelled, Labellable, Labelled, treeNext, matchedBelow}
@@ -97,18 +98,18 @@ next-same trees spares cost ts ss rows p e h m turns t l (suc s) k =
     ]
 
 -- What the loop keeps.
-pub record Labelling (trees spares : ℕ) (cost ts ss rows mates₀ : List ℕ) (b : Store) (t left turns : ℕ) : Type 0 where
+pub record Labelling (trees spares : ℕ) (cost ts ss rows taken mates₀ : List ℕ) (b : Store) (t left turns : ℕ) : Type 0 where
   pub trees-within : t ≤ trees
   pub spares-within : left ≤ spares
   pub turns-are : turns ≡ (trees - t) + left
-  pub sized : Sized b
+  pub sized : Sized taken b
   pub below : Below trees (b .mates)
-  pub same : (p : Problem) → p .trees ≡ trees → Holds p spares cost ts ss rows → matesOf (b .mates) ≡ matesOf mates₀
+  pub same : matesOf (b .mates) ≡ matesOf mates₀
   pub equal :
       (p : Problem) → p .trees ≡ trees → Holds p spares cost ts ss rows
       → labelFrom p (matesOf mates₀) turns t left (labelsOf b) ≡ labels p (matesOf mates₀)
 
-module _ (trees spares : ℕ) (cost ts ss rows mates tree-label spare-label : List ℕ) (h : Labellable trees spares ts ss mates tree-label spare-label) where
+module _ (trees spares : ℕ) (cost ts ss rows taken mates tree-label spare-label : List ℕ) (h : Labellable trees spares ts ss taken mates tree-label spare-label) where
   none-yet : labelsOf (store mates 0 (replicate 4 0) tree-label spare-label) ≡ unlabelled
   none-yet =
       ap₂ (λ (f g : ℕ → Bool). record { treeDone = f; spareDone = g; treeLabel = λ t. getD tree-label t 0; spareLabel = λ s. getD spare-label s 0 })
@@ -116,7 +117,7 @@ module _ (trees spares : ℕ) (cost ts ss rows mates tree-label spare-label : Li
       ∙ ap₂ (λ (f g : ℕ → ℕ). record { treeDone = λ _. false; spareDone = λ _. false; treeLabel = f; spareLabel = g })
       (fun-ext (h .no-tree)) (fun-ext (h .no-spare))
 
-  pub labelling-start : Labelling trees spares cost ts ss rows mates (store mates 0 (replicate 4 0) tree-label spare-label) 0 spares (trees + spares)
+  pub labelling-start : Labelling trees spares cost ts ss rows taken mates (store mates 0 (replicate 4 0) tree-label spare-label) 0 spares (trees + spares)
   labelling-start =
       record {
         trees-within = omega arith;
@@ -128,17 +129,18 @@ module _ (trees spares : ℕ) (cost ts ss rows mates tree-label spare-label : Li
           tree-length = h .tree-length;
           spare-length = h .spare-length;
           below = λ s. omega (arith, h .below s, h .few-trees);
+          taken-are = h .taken-are;
         };
         below = h .below;
-        same = λ p e q. refl;
+        same = refl;
         equal = λ p e q.
             ap (labelFrom p (matesOf mates) (trees + spares) 0 spares) none-yet
             ∙ rw (e, q .spares-are);
       }
 
-module _ (trees spares : ℕ) (cost ts ss rows mates₀ : List ℕ) (b : Store) (t left turns : ℕ) (h : Labelling trees spares cost ts ss rows mates₀ b t left turns) where
-  suits : (p : Problem) → p .trees ≡ trees → Holds p spares cost ts ss rows → Suits p spares rows (b .mates)
-  suits p e q = record { spares-are = q .spares-are; rows-are = q .rows-are; below = rw e (h .below) }
+module _ (trees spares : ℕ) (cost ts ss rows taken mates₀ : List ℕ) (b : Store) (t left turns : ℕ) (h : Labelling trees spares cost ts ss rows taken mates₀ b t left turns) where
+  suits : (p : Problem) → p .trees ≡ trees → Holds p spares cost ts ss rows → Suits p rows (b .mates)
+  suits p e q = record { rows-are = q .rows-are; below = rw e (h .below) }
 
   module _ (some : 0 < turns) where
     one-less : turns ≡ suc (turns - 1)
@@ -160,8 +162,8 @@ module _ (trees spares : ℕ) (cost ts ss rows mates₀ : List ℕ) (b : Store) 
 
     pub labelling-tree : treeNext trees cost ts ss t left ≡ true → (x : ℕ) → x ≡ costAt cost ts t
         → (matchedSet : ℕ) → ((u : ℕ) → bit matchedSet u ≡ matchedBelow spares mates₀ u)
-        → (b′ : Store) → TreeLabelled t x spares matchedSet rows b b′
-        → Labelling trees spares cost ts ss rows mates₀ b′ (t + 1) left (turns - 1)
+        → (b′ : Store) → TreeLabelled t x matchedSet rows taken b b′
+        → Labelling trees spares cost ts ss rows taken mates₀ b′ (t + 1) left (turns - 1)
     labelling-tree n x xe matchedSet mt b′ f =
         let l : t < trees = tree-there n in
         record {
@@ -169,14 +171,14 @@ module _ (trees spares : ℕ) (cost ts ss rows mates₀ : List ℕ) (b : Store) 
           spares-within = h .spares-within;
           turns-are = omega (arith, h .turns-are);
           sized = f .sized;
-          below = f .below trees l (h .below);
-          same = λ p e q. f .same p (suits p e q) (rw e l) ∙ h .same p e q;
+          below = below-same (b .mates) (b′ .mates) (f .same) trees (h .below);
+          same = f .same ∙ h .same;
           equal = λ p e q.
               let m : Mates = matesOf mates₀ in
               let step : labelsOf b′ ≡ labelTree p m t (labelsOf b) =
               f .equal p (suits p e q) (rw e l) (q .tree-cost t (rw e l) ∙ sym xe)
-              (mt t ∙ ap₂ (λ (n : ℕ) (z : Mates). ltb (first n (λ s. eqb (z s) (suc t))) n) (sym (q .spares-are)) (sym (h .same p e q)))
-              ∙ ap (λ (z : Mates). labelTree p z t (labelsOf b)) (h .same p e q) in
+              (mt t ∙ ap₂ (λ (n : ℕ) (z : Mates). ltb (first n (λ s. eqb (z s) (suc t))) n) (sym (q .spares-are)) (sym (h .same)))
+              ∙ ap (λ (z : Mates). labelTree p z t (labelsOf b)) (h .same) in
               ap (labelFrom p m (turns - 1) (t + 1) left) step
               ∙ rw (add-one t) (sym (from-tree p m (turns - 1) t (labelsOf b) left (next-same trees spares cost ts ss rows p e q m (turns - 1) t (labelsOf b) left (h .spares-within) ∙ n)))
               ∙ ap (λ (k : ℕ). labelFrom p m k t left (labelsOf b)) (sym one-less)
@@ -184,8 +186,8 @@ module _ (trees spares : ℕ) (cost ts ss rows mates₀ : List ℕ) (b : Store) 
         }
 
     pub labelling-spare : treeNext trees cost ts ss t left ≡ false → (x : ℕ) → x ≡ costAt cost ss (left - 1)
-        → (b′ : Store) → SpareLabelled (left - 1) x spares rows b b′
-        → Labelling trees spares cost ts ss rows mates₀ b′ t (left - 1) (turns - 1)
+        → (b′ : Store) → SpareLabelled (left - 1) x rows taken b b′
+        → Labelling trees spares cost ts ss rows taken mates₀ b′ t (left - 1) (turns - 1)
     labelling-spare n x xe b′ f =
         let l : 0 < left = spare-there n in
         record {
@@ -193,13 +195,13 @@ module _ (trees spares : ℕ) (cost ts ss rows mates₀ : List ℕ) (b : Store) 
           spares-within = omega (arith, h .spares-within);
           turns-are = omega (arith, h .turns-are);
           sized = f .sized;
-          below = f .below trees (h .below);
-          same = λ p e q. f .same p (suits p e q) ∙ h .same p e q;
+          below = below-same (b .mates) (b′ .mates) (f .same) trees (h .below);
+          same = f .same ∙ h .same;
           equal = λ p e q.
               let m : Mates = matesOf mates₀ in
               let step : labelsOf b′ ≡ labelSpare p m (left - 1) (labelsOf b) =
               f .equal p (suits p e q) (q .spare-cost (left - 1) (omega (arith, q .spares-are, h .spares-within)) ∙ sym xe)
-              ∙ ap (λ (z : Mates). labelSpare p z (left - 1) (labelsOf b)) (h .same p e q) in
+              ∙ ap (λ (z : Mates). labelSpare p z (left - 1) (labelsOf b)) (h .same) in
               ap (labelFrom p m (turns - 1) t (left - 1)) step
               ∙ sym (from-spare p m (turns - 1) t (labelsOf b) left (next-same trees spares cost ts ss rows p e q m (turns - 1) t (labelsOf b) left (h .spares-within) ∙ n))
               ∙ ap (λ (k : ℕ). labelFrom p m k t left (labelsOf b)) (sym one-less)

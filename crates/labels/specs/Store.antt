@@ -11,7 +11,7 @@ use Rattle.bits.specs.Bit.{bit}
 use Rattle.sets.specs.Sets.{member}
 use Rattle.optimum.specs.Search.{Problem}
 use Rattle.optimum.specs.Lowest.{Labels, matched, labelTree, mateSearch, labelSpare, labels}
-use Rattle.search.specs.State.{matesOf, stateOf, Below, Suits}
+use Rattle.search.specs.State.{matesOf, stateOf, Below, Taken, Suits}
 use Rattle.matching.specs.Progress.{costAt, Edges, Holds}
 
 -- The arrays: the mates, the ranks that have a label, and the labels.
@@ -35,13 +35,14 @@ labelsOf b =
       spareLabel = λ s. getD (b .spare-label) s 0;
     }
 
--- The arrays have their sizes, and the mates are tree ranks.
-pub record Sized (b : Store) : Type 0 where
+-- The arrays have their sizes, the mates are tree ranks, and `taken` is the set of the matched spare ranks.
+pub record Sized (taken : List ℕ) (b : Store) : Type 0 where
   pub mates-length : length (b .mates) ≡ 256
   pub spares-length : length (b .spares) ≡ 4
   pub tree-length : length (b .tree-label) ≡ 64
   pub spare-length : length (b .spare-label) ≡ 256
   pub below : Below 64 (b .mates)
+  pub taken-are : Taken (b .mates) taken
 
 -- The members of a word, at places from `base` on, have the label x.
 pub record Filled (word base x : ℕ) (label label′ : List ℕ) : Type 0 where
@@ -62,32 +63,29 @@ pub record Relabelled (x old-trees : ℕ) (old-spares : List ℕ) (trees : ℕ) 
   pub at-spare : (s : ℕ) → getD spare-label′ s 0 ≡ cond (member spares s && not (member old-spares s)) x (getD spare-label s 0)
 
 -- A search from the mate of spare rank s.
-pub record MateSwept (s spares : ℕ) (rows mates : List ℕ) (trees : ℕ) (seen mates′ : List ℕ) (trees′ : ℕ) (seen′ : List ℕ) : Type 0 where
+pub record MateSwept (s : ℕ) (rows mates : List ℕ) (trees : ℕ) (seen mates′ : List ℕ) (trees′ : ℕ) (seen′ : List ℕ) : Type 0 where
   pub mates-length : length mates′ ≡ 256
   pub seen-length : length seen′ ≡ 4
-  pub below : (n : ℕ) → Below n mates → Below n mates′
-  pub same : (p : Problem) → Suits p spares rows mates → matesOf mates′ ≡ matesOf mates
+  pub same : matesOf mates′ ≡ matesOf mates
   pub equal :
-      (p : Problem) → Suits p spares rows mates
+      (p : Problem) → Suits p rows mates
       → stateOf mates′ trees′ seen′ false ≡ mateSearch p s (getD mates s 0) (stateOf mates trees seen false)
 
 -- Tree rank t as an origin.
-pub record TreeLabelled (t x spares matchedSet : ℕ) (rows : List ℕ) (b b′ : Store) : Type 0 where
-  pub sized : Sized b′
-  pub below : (n : ℕ) → t < n → Below n (b .mates) → Below n (b′ .mates)
-  pub same : (p : Problem) → Suits p spares rows (b .mates) → t < p .trees → matesOf (b′ .mates) ≡ matesOf (b .mates)
+pub record TreeLabelled (t x matchedSet : ℕ) (rows taken : List ℕ) (b b′ : Store) : Type 0 where
+  pub sized : Sized taken b′
+  pub same : matesOf (b′ .mates) ≡ matesOf (b .mates)
   pub equal :
-      (p : Problem) → Suits p spares rows (b .mates) → t < p .trees → p .treeCost t ≡ x
+      (p : Problem) → Suits p rows (b .mates) → t < p .trees → p .treeCost t ≡ x
       → bit matchedSet t ≡ matched p (matesOf (b .mates)) t
       → labelsOf b′ ≡ labelTree p (matesOf (b .mates)) t (labelsOf b)
 
 -- Spare rank s as an origin.
-pub record SpareLabelled (s x spares : ℕ) (rows : List ℕ) (b b′ : Store) : Type 0 where
-  pub sized : Sized b′
-  pub below : (n : ℕ) → Below n (b .mates) → Below n (b′ .mates)
-  pub same : (p : Problem) → Suits p spares rows (b .mates) → matesOf (b′ .mates) ≡ matesOf (b .mates)
+pub record SpareLabelled (s x : ℕ) (rows taken : List ℕ) (b b′ : Store) : Type 0 where
+  pub sized : Sized taken b′
+  pub same : matesOf (b′ .mates) ≡ matesOf (b .mates)
   pub equal :
-      (p : Problem) → Suits p spares rows (b .mates) → p .spareCost s ≡ x
+      (p : Problem) → Suits p rows (b .mates) → p .spareCost s ≡ x
       → labelsOf b′ ≡ labelSpare p (matesOf (b .mates)) s (labelsOf b)
 
 -- Tree rank t is the next origin, and not the spare rank before s.
@@ -99,7 +97,7 @@ abbrev pub matchedBelow : ℕ → List ℕ → ℕ → Bool
 matchedBelow n mates t = ltb (first n (λ s. eqb (getD mates s 0) (suc t))) n
 
 -- What labelling needs: a matching, and no labels yet.
-pub record Labellable (trees spares : ℕ) (ts ss mates tree-label spare-label : List ℕ) : Type 0 where
+pub record Labellable (trees spares : ℕ) (ts ss taken mates tree-label spare-label : List ℕ) : Type 0 where
   pub few-trees : trees ≤ 64
   pub few-spares : spares ≤ 256
   pub tree-edges : Edges trees ts
@@ -108,6 +106,7 @@ pub record Labellable (trees spares : ℕ) (ts ss mates tree-label spare-label :
   pub tree-length : length tree-label ≡ 64
   pub spare-length : length spare-label ≡ 256
   pub below : Below trees mates
+  pub taken-are : Taken mates taken
   pub no-tree : (t : ℕ) → getD tree-label t 0 ≡ 0
   pub no-spare : (s : ℕ) → getD spare-label s 0 ≡ 0
 
@@ -115,7 +114,7 @@ pub record Labellable (trees spares : ℕ) (ts ss mates tree-label spare-label :
 pub record Labelled (trees spares : ℕ) (cost ts ss rows mates mates′ tree-label spare-label : List ℕ) : Type 0 where
   pub mates-length : length mates′ ≡ 256
   pub below : Below trees mates′
-  pub same : (p : Problem) → p .trees ≡ trees → Holds p spares cost ts ss rows → matesOf mates′ ≡ matesOf mates
+  pub same : matesOf mates′ ≡ matesOf mates
   pub tree-labels :
       (p : Problem) → p .trees ≡ trees → Holds p spares cost ts ss rows
       → (t : ℕ) → getD tree-label t 0 ≡ labels p (matesOf mates) .treeLabel t

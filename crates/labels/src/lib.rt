@@ -7,7 +7,7 @@ ghost use Prim.Native.Nat.{ℕ, suc, _+_, _<_, _≤_};
 ghost use lib.Dec.{eqb};
 ghost use lib.ListN.{getD, length};
 ghost use Rattle.bits.specs.Bit.{bit};
-ghost use Rattle.search.specs.State.{Below};
+ghost use Rattle.search.specs.State.{Below, Taken};
 ghost use Rattle.matching.specs.Progress.{Edges, costAt};
 ghost use Rattle.labels.specs.Store.{store, Sized, Filled, SparesFilled, Relabelled, MateSwept, TreeLabelled, SpareLabelled, Labellable, Labelled, treeNext, matchedBelow};
 
@@ -56,14 +56,14 @@ fn relabel(
 // Explores from the mate of spare rank `s`, if it has one that was not seen.
 fn explore_mate(
     s: SpareRank,
-    spares: u32,
     rows: &[u64; 256],
+    taken: &[u64; 4],
     mates: &mut [u32; 256],
     tree_seen: &mut u64,
     spare_seen: &mut [u64; 4],
 )
-    requires { ⌜ (s .0 < 256) × (length (now mates) ≡ 256) × (length (now «spare_seen») ≡ 4) × Below 64 (now mates) ⌝ }
-    ensures { λ r. ⌜ MateSwept (s .0) spares (now (rows .entry)) (now (mates .entry)) (now («tree_seen» .entry)) (now («spare_seen» .entry)) (now (mates .exit)) (now («tree_seen» .exit)) (now («spare_seen» .exit)) ⌝ }
+    requires { ⌜ (s .0 < 256) × (length (now mates) ≡ 256) × (length (now «spare_seen») ≡ 4) × Below 64 (now mates) × Taken (now mates) (now taken) ⌝ }
+    ensures { λ r. ⌜ MateSwept (s .0) (now (rows .entry)) (now (mates .entry)) (now («tree_seen» .entry)) (now («spare_seen» .entry)) (now (mates .exit)) (now («tree_seen» .exit)) (now («spare_seen» .exit)) ⌝ }
 {
     let mate = mates[s.0 as usize];
     if mate == 0 {
@@ -74,8 +74,8 @@ fn explore_mate(
     }
     search::explore(
         TreeRank(mate - 1),
-        spares,
         rows,
+        taken,
         mates,
         tree_seen,
         spare_seen,
@@ -86,17 +86,17 @@ fn explore_mate(
 fn label_tree(
     t: TreeRank,
     x: u32,
-    spares: u32,
     matched: u64,
     rows: &[u64; 256],
+    taken: &[u64; 4],
     mates: &mut [u32; 256],
     tree_done: &mut u64,
     spare_done: &mut [u64; 4],
     tree_label: &mut [u32; 64],
     spare_label: &mut [u32; 256],
 )
-    requires { ⌜ (t .0 < 64) × Sized (store (now mates) (now «tree_done») (now «spare_done») (now «tree_label») (now «spare_label»)) ⌝ }
-    ensures { λ r. ⌜ TreeLabelled (t .0) x spares matched (now (rows .entry)) (store (now (mates .entry)) (now («tree_done» .entry)) (now («spare_done» .entry)) (now («tree_label» .entry)) (now («spare_label» .entry))) (store (now (mates .exit)) (now («tree_done» .exit)) (now («spare_done» .exit)) (now («tree_label» .exit)) (now («spare_label» .exit))) ⌝ }
+    requires { ⌜ (t .0 < 64) × Sized (now taken) (store (now mates) (now «tree_done») (now «spare_done») (now «tree_label») (now «spare_label»)) ⌝ }
+    ensures { λ r. ⌜ TreeLabelled (t .0) x matched (now (rows .entry)) (now (taken .entry)) (store (now (mates .entry)) (now («tree_done» .entry)) (now («spare_done» .entry)) (now («tree_label» .entry)) (now («spare_label» .entry))) (store (now (mates .exit)) (now («tree_done» .exit)) (now («spare_done» .exit)) (now («tree_label» .exit)) (now («spare_label» .exit))) ⌝ }
 {
     if bits::has(matched, t.0) {
         return;
@@ -106,7 +106,7 @@ fn label_tree(
     }
     let old_trees = *tree_done;
     let old_spares = *spare_done;
-    search::explore(t, spares, rows, mates, tree_done, spare_done);
+    search::explore(t, rows, taken, mates, tree_done, spare_done);
     relabel(
         x,
         old_trees,
@@ -122,16 +122,16 @@ fn label_tree(
 fn label_spare(
     s: SpareRank,
     x: u32,
-    spares: u32,
     rows: &[u64; 256],
+    taken: &[u64; 4],
     mates: &mut [u32; 256],
     tree_done: &mut u64,
     spare_done: &mut [u64; 4],
     tree_label: &mut [u32; 64],
     spare_label: &mut [u32; 256],
 )
-    requires { ⌜ (s .0 < 256) × Sized (store (now mates) (now «tree_done») (now «spare_done») (now «tree_label») (now «spare_label»)) ⌝ }
-    ensures { λ r. ⌜ SpareLabelled (s .0) x spares (now (rows .entry)) (store (now (mates .entry)) (now («tree_done» .entry)) (now («spare_done» .entry)) (now («tree_label» .entry)) (now («spare_label» .entry))) (store (now (mates .exit)) (now («tree_done» .exit)) (now («spare_done» .exit)) (now («tree_label» .exit)) (now («spare_label» .exit))) ⌝ }
+    requires { ⌜ (s .0 < 256) × Sized (now taken) (store (now mates) (now «tree_done») (now «spare_done») (now «tree_label») (now «spare_label»)) ⌝ }
+    ensures { λ r. ⌜ SpareLabelled (s .0) x (now (rows .entry)) (now (taken .entry)) (store (now (mates .entry)) (now («tree_done» .entry)) (now («spare_done» .entry)) (now («tree_label» .entry)) (now («spare_label» .entry))) (store (now (mates .exit)) (now («tree_done» .exit)) (now («spare_done» .exit)) (now («tree_label» .exit)) (now («spare_label» .exit))) ⌝ }
 {
     if sets::contains(spare_done, s.0) {
         return;
@@ -139,7 +139,7 @@ fn label_spare(
     let old_trees = *tree_done;
     let old_spares = *spare_done;
     sets::insert(spare_done, s.0);
-    explore_mate(s, spares, rows, mates, tree_done, spare_done);
+    explore_mate(s, rows, taken, mates, tree_done, spare_done);
     relabel(
         x,
         old_trees,
@@ -214,11 +214,12 @@ pub fn label(
     ts: &[u32; 256],
     ss: &[u32; 256],
     rows: &[u64; 256],
+    taken: &[u64; 4],
     mates: &mut [u32; 256],
     tree_label: &mut [u32; 64],
     spare_label: &mut [u32; 256],
 )
-    requires { ⌜ Labellable trees spares (now ts) (now ss) (now mates) (now «tree_label») (now «spare_label») ⌝ }
+    requires { ⌜ Labellable trees spares (now ts) (now ss) (now taken) (now mates) (now «tree_label») (now «spare_label») ⌝ }
     ensures { λ r. ⌜ Labelled trees spares (now (cost .entry)) (now (ts .entry)) (now (ss .entry)) (now (rows .entry)) (now (mates .entry)) (now (mates .exit)) (now («tree_label» .exit)) (now («spare_label» .exit)) ⌝ }
 {
     let matched = matched_trees(spares, mates);
@@ -234,9 +235,9 @@ pub fn label(
             label_tree(
                 TreeRank(t),
                 x,
-                spares,
                 matched,
                 rows,
+                taken,
                 mates,
                 &mut tree_done,
                 &mut spare_done,
@@ -250,8 +251,8 @@ pub fn label(
             label_spare(
                 SpareRank(left),
                 x,
-                spares,
                 rows,
+                taken,
                 mates,
                 &mut tree_done,
                 &mut spare_done,

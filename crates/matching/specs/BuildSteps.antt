@@ -13,8 +13,8 @@ use Rattle.bits.specs.BitLaws.{bit-zero}
 use Rattle.sets.specs.Sets.{member}
 use Rattle.sets.specs.SetsLaws.{member-none}
 use Rattle.optimum.specs.Search.{Problem, Mates, Progress, augment, matching}
-use Rattle.search.specs.State.{Below}
-use Rattle.matching.specs.Progress.{progressOf, Holds, Taken, Ready, Augmented, Buildable, Built}
+use Rattle.search.specs.State.{Below, Taken}
+use Rattle.matching.specs.Progress.{progressOf, Holds, Ready, Augmented, Buildable, Built}
 
 -- Nothing matched, nothing dead.
 abbrev none : Progress
@@ -27,32 +27,32 @@ pub record Building (trees spares : ℕ) (cost ts ss rows mates taken : List ℕ
   pub taken-length : length taken ≡ 4
   pub dead-length : length dead ≡ 4
   pub below : Below trees mates
+  pub taken-are : Taken mates taken
   pub equal :
       (p : Problem) → p .trees ≡ trees → Holds p spares cost ts ss rows
       → scan (augment p) (trees - t) t (progressOf mates dead-trees dead) ≡ scan (augment p) trees 0 none
-  pub taken-is : (p : Problem) → p .trees ≡ trees → Holds p spares cost ts ss rows → Taken mates taken
 
-module _ (trees spares : ℕ) (cost ts ss rows mates : List ℕ) (h : Buildable trees spares ts ss mates) where
+module _ (trees spares : ℕ) (cost ts ss rows mates taken : List ℕ) (h : Buildable trees spares ts ss mates taken) where
   empty-is : progressOf mates 0 (replicate 4 0) ≡ none
   empty-is =
       ap (λ (m : Mates). record { mates = m; treeDead = bit 0; spareDead = member (replicate 4 0) }) (fun-ext (h .empty))
       ∙ ap₂ (λ (f g : ℕ → Bool). record { mates = λ _. 0; treeDead = f; spareDead = g }) (fun-ext bit-zero) (fun-ext (member-none 4))
 
-  pub building-start : Building trees spares cost ts ss rows mates (replicate 4 0) 0 (replicate 4 0) 0
+  pub building-start : Building trees spares cost ts ss rows mates taken 0 (replicate 4 0) 0
   building-start =
       record {
         within = omega arith;
         mates-length = h .mates-length;
-        taken-length = length-replicate {A = ℕ} 4 0;
+        taken-length = h .taken-length;
         dead-length = length-replicate {A = ℕ} 4 0;
         below = λ s. omega (arith, h .empty s);
+        taken-are = λ s l. rw (h .none-taken s, h .empty s);
         equal = λ p e q. scan-start (augment p) trees (progressOf mates 0 (replicate 4 0)) ∙ ap (scan (augment p) trees 0) empty-is;
-        taken-is = λ p e q s l. rw (member-none 4 s, h .empty s);
       }
 
 module _ (trees spares : ℕ) (cost ts ss rows mates taken : List ℕ) (dead-trees : ℕ) (dead : List ℕ) (t : ℕ) (h : Building trees spares cost ts ss rows mates taken dead-trees dead t) where
-  pub building-ready : (mates₀ : List ℕ) → Buildable trees spares ts ss mates₀ → t < trees → Ready t spares ts ss mates taken dead
-  building-ready mates₀ b l =
+  pub building-ready : (mates₀ taken₀ : List ℕ) → Buildable trees spares ts ss mates₀ taken₀ → t < trees → Ready t spares ts ss mates taken dead
+  building-ready mates₀ taken₀ b l =
       record {
         rank = omega (arith, b .few-trees);
         few = b .few-spares;
@@ -62,10 +62,11 @@ module _ (trees spares : ℕ) (cost ts ss rows mates taken : List ℕ) (dead-tre
         taken-length = h .taken-length;
         dead-length = h .dead-length;
         below = λ s. omega (arith, h .below s, b .few-trees);
+        taken-are = h .taken-are;
       }
 
   pub building-turn : (mates′ taken′ : List ℕ) (dead-trees′ : ℕ) (dead′ : List ℕ) → t < trees
-      → Augmented t spares cost ts ss rows mates taken dead-trees dead mates′ taken′ dead-trees′ dead′
+      → Augmented t spares cost ts ss rows mates dead-trees dead mates′ taken′ dead-trees′ dead′
       → Building trees spares cost ts ss rows mates′ taken′ dead-trees′ dead′ (t + 1)
   building-turn mates′ taken′ dead-trees′ dead′ l a =
       record {
@@ -74,18 +75,19 @@ module _ (trees spares : ℕ) (cost ts ss rows mates taken : List ℕ) (dead-tre
         taken-length = a .taken-length;
         dead-length = a .dead-length;
         below = a .below trees l (h .below);
+        taken-are = a .taken-are;
         equal = λ p e q.
-            ap (scan (augment p) (trees - (t + 1)) (t + 1)) (a .equal p q (rw e (h .below)) (rw e l) (h .taken-is p e q))
+            ap (scan (augment p) (trees - (t + 1)) (t + 1)) (a .equal p q (rw e (h .below)) (rw e l))
             ∙ sym (scan-turn (augment p) trees t (progressOf mates dead-trees dead) l)
             ∙ h .equal p e q;
-        taken-is = λ p e q. a .taken-is p q (rw e (h .below)) (rw e l) (h .taken-is p e q);
       }
 
-  pub building-end : trees ≤ t → Built trees spares cost ts ss rows mates
+  pub building-end : trees ≤ t → Built trees spares cost ts ss rows mates taken
   building-end l =
       record {
         mates-length = h .mates-length;
         below = h .below;
+        taken-are = h .taken-are;
         equal = λ p e q.
             ap (λ (pr : Progress). pr .mates)
             (sym (scan-end (augment p) trees t (progressOf mates dead-trees dead) l) ∙ h .equal p e q

@@ -2,14 +2,14 @@
 -- Definitions only. Assumes nothing.
 use Prim.Native.Nat.{ℕ, _≤_, _<_}
 use mathlib.Core.Path.{_≡_}
-use mathlib.Core.Bool.{Bool, not, _&&_}
+use mathlib.Core.Bool.{Bool, false, _&&_}
 use mathlib.Core.List.{List}
-use lib.Dec.{ltb, eqb}
+use lib.Dec.{ltb}
 use lib.ListN.{length, getD}
 use Rattle.bits.specs.Bit.{bit}
 use Rattle.sets.specs.Sets.{member}
 use Rattle.optimum.specs.Search.{Problem, Progress, augment, matching}
-use Rattle.search.specs.State.{matesOf, Below, Rows}
+use Rattle.search.specs.State.{matesOf, Below, Taken, Rows}
 
 -- The mates, and the ranks that searches which failed have seen.
 abbrev pub progressOf : List ℕ → ℕ → List ℕ → Progress
@@ -30,10 +30,6 @@ pub record Holds (p : Problem) (spares : ℕ) (cost ts ss rows : List ℕ) : Typ
   pub tree-cost : (t : ℕ) → t < p .trees → p .treeCost t ≡ costAt cost ts t
   pub spare-cost : (s : ℕ) → s < p .spares → p .spareCost s ≡ costAt cost ss s
 
--- The set of the matched spare ranks.
-abbrev pub Taken : List ℕ → List ℕ → Type 0
-Taken mates taken = (s : ℕ) → s < 256 → member taken s ≡ not (eqb (getD mates s 0) 0)
-
 -- The goal is worth a search from tree rank t: there is one, and it costs less.
 abbrev pub gain : ℕ → List ℕ → List ℕ → List ℕ → ℕ → ℕ → Bool
 gain spares cost ts ss t goal = ltb goal spares && ltb (costAt cost ss goal) (costAt cost ts t)
@@ -48,31 +44,33 @@ pub record Ready (t spares : ℕ) (ts ss mates taken dead : List ℕ) : Type 0 w
   pub taken-length : length taken ≡ 4
   pub dead-length : length dead ≡ 4
   pub below : Below 64 mates
+  pub taken-are : Taken mates taken
 
 -- What it leaves: sizes, and the model's progress.
-pub record Augmented (t spares : ℕ) (cost ts ss rows mates taken : List ℕ) (trees : ℕ) (dead mates′ taken′ : List ℕ) (trees′ : ℕ) (dead′ : List ℕ) : Type 0 where
+pub record Augmented (t spares : ℕ) (cost ts ss rows mates : List ℕ) (trees : ℕ) (dead mates′ taken′ : List ℕ) (trees′ : ℕ) (dead′ : List ℕ) : Type 0 where
   pub mates-length : length mates′ ≡ 256
   pub taken-length : length taken′ ≡ 4
   pub dead-length : length dead′ ≡ 4
   pub below : (n : ℕ) → t < n → Below n mates → Below n mates′
+  pub taken-are : Taken mates′ taken′
   pub equal :
-      (p : Problem) → Holds p spares cost ts ss rows → Below (p .trees) mates → t < p .trees → Taken mates taken
+      (p : Problem) → Holds p spares cost ts ss rows → Below (p .trees) mates → t < p .trees
       → progressOf mates′ trees′ dead′ ≡ augment p t (progressOf mates trees dead)
-  pub taken-is :
-      (p : Problem) → Holds p spares cost ts ss rows → Below (p .trees) mates → t < p .trees → Taken mates taken
-      → Taken mates′ taken′
 
 -- What building a matching needs: room for it, and nothing in it yet.
-pub record Buildable (trees spares : ℕ) (ts ss mates : List ℕ) : Type 0 where
+pub record Buildable (trees spares : ℕ) (ts ss mates taken : List ℕ) : Type 0 where
   pub few-trees : trees ≤ 64
   pub few-spares : spares ≤ 256
   pub tree-edges : Edges trees ts
   pub spare-edges : Edges spares ss
   pub mates-length : length mates ≡ 256
+  pub taken-length : length taken ≡ 4
   pub empty : (s : ℕ) → getD mates s 0 ≡ 0
+  pub none-taken : (s : ℕ) → member taken s ≡ false
 
--- What it leaves: the model's matching.
-pub record Built (trees spares : ℕ) (cost ts ss rows mates : List ℕ) : Type 0 where
+-- What it leaves: the model's matching, and the set of its spare ranks.
+pub record Built (trees spares : ℕ) (cost ts ss rows mates taken : List ℕ) : Type 0 where
   pub mates-length : length mates ≡ 256
   pub below : Below trees mates
+  pub taken-are : Taken mates taken
   pub equal : (p : Problem) → p .trees ≡ trees → Holds p spares cost ts ss rows → matesOf mates ≡ matching p

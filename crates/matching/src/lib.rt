@@ -41,11 +41,11 @@ fn augment(
     spare_dead: &mut [u64; 4],
 )
     requires { ⌜ Ready (t .0) spares (now ts) (now ss) (now mates) (now taken) (now «spare_dead») ⌝ }
-    ensures { λ r. ⌜ Augmented (t .0) spares (now (cost .entry)) (now (ts .entry)) (now (ss .entry)) (now (rows .entry)) (now (mates .entry)) (now (taken .entry)) (now («tree_dead» .entry)) (now («spare_dead» .entry)) (now (mates .exit)) (now (taken .exit)) (now («tree_dead» .exit)) (now («spare_dead» .exit)) ⌝ }
+    ensures { λ r. ⌜ Augmented (t .0) spares (now (cost .entry)) (now (ts .entry)) (now (ss .entry)) (now (rows .entry)) (now (mates .entry)) (now («tree_dead» .entry)) (now («spare_dead» .entry)) (now (mates .exit)) (now (taken .exit)) (now («tree_dead» .exit)) (now («spare_dead» .exit)) ⌝ }
 {
     let mut tree_seen = *tree_dead;
     let mut spare_seen = *spare_dead;
-    search::explore(t, spares, rows, mates, &mut tree_seen, &mut spare_seen);
+    search::explore(t, rows, taken, mates, &mut tree_seen, &mut spare_seen);
     let goal = sets::lowest_fresh(&spare_seen, spare_dead, taken);
     if gains(t, SpareRank(goal), spares, cost, ts, ss) {
         tree_seen = *tree_dead;
@@ -54,6 +54,7 @@ fn augment(
             t,
             SpareRank(goal),
             rows,
+            taken,
             mates,
             &mut tree_seen,
             &mut spare_seen,
@@ -65,7 +66,7 @@ fn augment(
     *spare_dead = spare_seen;
 }
 
-// Builds the matching in `mates`, which is empty: every tree rank in turn.
+// Builds the matching in `mates`, which is empty, and the set of its spare ranks: every tree rank in turn.
 pub fn build(
     trees: u32,
     spares: u32,
@@ -74,11 +75,11 @@ pub fn build(
     ss: &[u32; 256],
     rows: &[u64; 256],
     mates: &mut [u32; 256],
+    taken: &mut [u64; 4],
 )
-    requires { ⌜ Buildable trees spares (now ts) (now ss) (now mates) ⌝ }
-    ensures { λ r. ⌜ Built trees spares (now (cost .entry)) (now (ts .entry)) (now (ss .entry)) (now (rows .entry)) (now (mates .exit)) ⌝ }
+    requires { ⌜ Buildable trees spares (now ts) (now ss) (now mates) (now taken) ⌝ }
+    ensures { λ r. ⌜ Built trees spares (now (cost .entry)) (now (ts .entry)) (now (ss .entry)) (now (rows .entry)) (now (mates .exit)) (now (taken .exit)) ⌝ }
 {
-    let mut taken = [0u64; 4];
     let mut tree_dead = 0u64;
     let mut spare_dead = [0u64; 4];
     let mut t = 0;
@@ -91,7 +92,7 @@ pub fn build(
             ss,
             rows,
             mates,
-            &mut taken,
+            taken,
             &mut tree_dead,
             &mut spare_dead,
         );

@@ -31,6 +31,16 @@ seeTree t st = record { mates = st .mates; treeSeen = put (st .treeSeen) t true;
 abbrev pub seeSpare : ℕ → Search → Search
 seeSpare s st = record { mates = st .mates; treeSeen = st .treeSeen; spareSeen = put (st .spareSeen) s true; met = st .met }
 
+-- Every unmatched non-tree rank that covers tree rank t at once: no mate leads on from them.
+abbrev pub seeFree : Problem → ℕ → Search → Search
+seeFree p t st =
+    record {
+      mates = st .mates;
+      treeSeen = st .treeSeen;
+      spareSeen = λ s. st .spareSeen s || (ltb s (p .spares) && p .covers t s && eqb (st .mates s) 0);
+      met = st .met;
+    }
+
 abbrev pub match : ℕ → ℕ → Search → Search
 match t s st = record { mates = put (st .mates) s (suc t); treeSeen = st .treeSeen; spareSeen = st .spareSeen; met = st .met }
 
@@ -47,20 +57,19 @@ follow visit t s (suc t′) st =
     cond (next .met) next (match t′ s next)
 
 -- Tree rank t tries non-tree rank s.
-unfoldable pub tryPartner : ℕ → (ℕ → Search → Search) → ℕ → ℕ → Search → Search
-tryPartner goal visit t s st =
-    choose (eqb s goal)
-    (λ _. reachGoal (match t s (seeSpare s st)))
-    (λ _. follow visit t s (st .mates s) (seeSpare s st))
+unfoldable pub trySpare : Problem → (ℕ → Search → Search) → ℕ → ℕ → Search → Search
+trySpare p visit t s st =
+    choose (st .met || not (p .covers t s) || st .spareSeen s) (λ _. st) λ _.
+    follow visit t s (st .mates s) (seeSpare s st)
 
-unfoldable pub trySpare : Problem → ℕ → (ℕ → Search → Search) → ℕ → ℕ → Search → Search
-trySpare p goal visit t s st =
-    choose (st .met || not (p .covers t s) || st .spareSeen s) (λ _. st) (λ _. tryPartner goal visit t s st)
-
--- Tree rank t visited: it tries every non-tree rank, by rank. The first number bounds how deep the calls go.
+-- Tree rank t visited: it is matched to the goal, if that covers it; else it visits the unmatched non-tree ranks that
+-- cover it, and then tries the matched ones, by rank. The first number after the goal bounds how deep the calls go.
 unfoldable pub tryTree : Problem → ℕ → ℕ → ℕ → Search → Search
 tryTree p goal zero t st = st
-tryTree p goal (suc depth) t st = scan (trySpare p goal (tryTree p goal depth) t) (p .spares) 0 (seeTree t st)
+tryTree p goal (suc depth) t st =
+    choose (ltb goal (p .spares) && p .covers t goal)
+    (λ _. reachGoal (match t goal st))
+    (λ _. scan (trySpare p (tryTree p goal depth) t) (p .spares) 0 (seeFree p t (seeTree t st)))
 
 abbrev pub search : Problem → ℕ → ℕ → Search → Search
 search p goal t st = tryTree p goal (suc (p .trees)) t st

@@ -5,14 +5,15 @@ use native.Mathlib.Decide.{ℕ-discrete}
 use native.Mathlib.Omega.{arith}
 use mathlib.Core.Path.{_≡_, refl, sym, _∙_, ap}
 use mathlib.Core.Logic.{_≢_, _⊎_, inl, inr}
-use mathlib.Core.Bool.{Bool, true, false, cond, not, _||_}
-use borrow.Author.Tests.{eqb-true, eqb-false}
+use mathlib.Core.Bool.{Bool, true, false, cond, not, _&&_, _||_}
+use lib.Dec.{ltb, eqb}
+use borrow.Author.Tests.{ltb-true, lt-ltb, eqb-true}
 use Rattle.loops.specs.Loop.{scan, put}
-use Rattle.loops.specs.TestLaws.{truth, clash, cond-both, choose-both}
+use Rattle.loops.specs.TestLaws.{truth, clash, and-first, and-second, and-miss, or-either, cond-both, choose-both}
 use Rattle.loops.specs.PutLaws.{put-same, put-other, put-back, put-split, put-kept}
 use Rattle.graph.specs.Graph.{count}
 use Rattle.graph.specs.CountLaws.{count-put, count-below, count-within}
-use Rattle.optimum.specs.Search.{Problem, Mates, Search, seeTree, seeSpare, match, reachGoal, follow, tryPartner, trySpare, tryTree, search}
+use Rattle.optimum.specs.Search.{Problem, Mates, Search, seeTree, seeSpare, seeFree, match, reachGoal, follow, trySpare, tryTree, search}
 
 -- An alternating path from tree rank t to the goal, in the matching m, which it turns into m′; base is the matching at
 -- the start of the search.
@@ -51,10 +52,11 @@ pub record Grown (p : Problem) (goal : ℕ) (base : Mates) (OnTree OnSpare : ℕ
   pub unmet : st′ .met ≡ false
 
 -- A state in the course of a search.
-pub record During (start st : Search) : Type 0 where
+pub record During (p : Problem) (goal : ℕ) (start st : Search) : Type 0 where
   pub trees : (t : ℕ) → start .treeSeen t ≡ true → st .treeSeen t ≡ true
   pub spares : (s : ℕ) → start .spareSeen s ≡ true → st .spareSeen s ≡ true
   pub mates : (s : ℕ) → st .spareSeen s ≡ false → st .mates s ≡ start .mates s
+  pub ahead : goal < p .spares → st .spareSeen goal ≡ false
   pub unmet : st .met ≡ false
 
 -- Not visited now, so not before.
@@ -112,31 +114,38 @@ tried true covers seen q = clash refl q
 tried false true seen q = (refl, q)
 tried false false seen q = clash refl q
 
-during-grown : (p : Problem) (goal : ℕ) (start : Search) (OnTree OnSpare : ℕ → Type 0) (st st′ : Search) → During start st → Grown p goal (start .mates) OnTree OnSpare st st′ → During start st′
+during-grown : (p : Problem) (goal : ℕ) (start : Search) (OnTree OnSpare : ℕ → Type 0) (st st′ : Search) → During p goal start st → Grown p goal (start .mates) OnTree OnSpare st st′ → During p goal start st′
 during-grown p goal start OnTree OnSpare st st′ d g =
     record {
       trees = λ t q. g .trees t (d .trees t q);
       spares = λ s q. g .spares s (d .spares s q);
       mates = λ s q. ap (λ (m : Mates). m s) (g .mates) ∙ d .mates s (unseen (st .spareSeen) (st′ .spareSeen) s (g .spares) q);
+      ahead = λ l. elim (truth (st′ .spareSeen goal)) [ inl q ↦ seen l (g .new-spare goal q) | inr q ↦ q ];
       unmet = g .unmet;
     }
+  where
+    seen : goal < p .spares → (st .spareSeen goal ≡ true) ⊎ SpareClosed p goal (start .mates) OnSpare (st′ .treeSeen) goal → st′ .spareSeen goal ≡ false
+    seen l (inl q) = clash q (d .ahead l)
+    seen l (inr c) = absurd (c .missed refl)
 
-during-see-tree : (start : Search) (t : ℕ) (st : Search) → During start st → During start (seeTree t st)
-during-see-tree start t st d =
+during-see-tree : (p : Problem) (goal : ℕ) (start : Search) (t : ℕ) (st : Search) → During p goal start st → During p goal start (seeTree t st)
+during-see-tree p goal start t st d =
     record {
       trees = λ x q. put-kept (st .treeSeen) t x (d .trees x q);
       spares = d .spares;
       mates = d .mates;
+      ahead = d .ahead;
       unmet = d .unmet;
     }
 
--- Non-tree rank s visited and matched to t.
-during-match : (start : Search) (t s : ℕ) (st : Search) → During start st → During start (match t s (seeSpare s st))
-during-match start t s st d =
+-- Non-tree rank s, not the goal, visited and matched to t.
+during-match : (p : Problem) (goal : ℕ) (start : Search) (t s : ℕ) (st : Search) → s ≢ goal → During p goal start st → During p goal start (match t s (seeSpare s st))
+during-match p goal start t s st n d =
     record {
       trees = d .trees;
       spares = λ x q. put-kept (st .spareSeen) s x (d .spares x q);
       mates = mate-at;
+      ahead = λ l. put-other (st .spareSeen) s true goal (λ e. n (sym e)) ∙ d .ahead l;
       unmet = d .unmet;
     }
   where
@@ -242,9 +251,9 @@ module _
     module _
         (depth : ℕ)
         (visit : ℕ → Search → Search)
-        (visits : (t : ℕ) (st : Search) → OnTree t → During start st → p .trees < depth + count (p .trees) (put (st .treeSeen) t true) → Visits st t (visit t st))
+        (visits : (t : ℕ) (st : Search) → OnTree t → During p goal start st → p .trees < depth + count (p .trees) (put (st .treeSeen) t true) → Visits st t (visit t st))
       where
-        follow-ends : (t s : ℕ) (st : Search) → s < p .spares → p .covers t s ≡ true → OnSpare s → s ≢ goal → During start st → st .spareSeen s ≡ false → p .trees ≤ depth + count (p .trees) (st .treeSeen) → (mate : ℕ) → st .mates s ≡ mate → Tries st t (_≡_ s) (follow visit t s mate (seeSpare s st))
+        follow-ends : (t s : ℕ) (st : Search) → s < p .spares → p .covers t s ≡ true → OnSpare s → s ≢ goal → During p goal start st → st .spareSeen s ≡ false → p .trees ≤ depth + count (p .trees) (st .treeSeen) → (mate : ℕ) → st .mates s ≡ mate → Tries st t (_≡_ s) (follow visit t s mate (seeSpare s st))
         unfolding follow
         follow-ends t s st l c o n d f m zero e =
             inl (
@@ -259,7 +268,7 @@ module _
             at-visit
             (visits t′ (match t s (seeSpare s st))
             (kept .to-mate s t′ l o mate-is (unseen (start .treeSeen) (st .treeSeen) t′ (d .trees) h))
-            (during-match start t s st d)
+            (during-match p goal start t s st n d)
             (omega (arith, rw h at (count-put (p .trees) (st .treeSeen) t′ true (below s t′ l mate-is))))))
           where
             next : Search
@@ -288,40 +297,32 @@ module _
             at-visit (inr x) =
                 cond-both (Tries st t (_≡_ s)) _ _ _ (λ _. inr (x .0, via l c mate-is e (x .1))) (λ q. clash (x .0) q)
 
-        try-ends : (t s : ℕ) (st : Search) → s < p .spares → OnTree t → During start st → p .trees ≤ depth + count (p .trees) (st .treeSeen) → Tries st t (_≡_ s) (trySpare p goal visit t s st)
-        unfolding trySpare tryPartner
-        try-ends t s st l o d m =
+        try-ends : (t s : ℕ) (st : Search) → s < p .spares → (p .covers t s ≡ true → s ≢ goal) → OnTree t → During p goal start st → p .trees ≤ depth + count (p .trees) (st .treeSeen) → Tries st t (_≡_ s) (trySpare p visit t s st)
+        unfolding trySpare
+        try-ends t s st l n o d m =
             choose-both (Tries st t (_≡_ s)) _ _ _
             (λ q. inl (grown-refl p goal (start .mates) OnTree OnSpare st (d .unmet), λ x e k. rw e at (skipped (st .met) (p .covers t s) (st .spareSeen s) q (d .unmet) (rw e k))))
-            (λ q.
-            choose-both (Tries st t (_≡_ s)) _ _ _
-            (λ r. at-goal (tried (st .met) (p .covers t s) (st .spareSeen s) q) (eqb-true s goal r))
-            (λ r. at-mate (tried (st .met) (p .covers t s) (st .spareSeen s) q) (eqb-false s goal r) _ refl))
+            (λ q. at-mate (tried (st .met) (p .covers t s) (st .spareSeen s) q))
           where
-            at-goal : (p .covers t s ≡ true) × (st .spareSeen s ≡ false) → s ≡ goal → Tries st t (_≡_ s) (reachGoal (match t s (seeSpare s st)))
-            at-goal (c, f) e =
-                let path : AugmentingPath p goal (start .mates) (st .mates) t (put (st .mates) goal (suc t)) = stop (rw e at l) (rw e at c) (d .mates goal (rw e at f)) in
-                inr (refl, rw e path)
-
-            at-mate : (p .covers t s ≡ true) × (st .spareSeen s ≡ false) → s ≢ goal → (mate : ℕ) → st .mates s ≡ mate → Tries st t (_≡_ s) (follow visit t s mate (seeSpare s st))
-            at-mate (c, f) n =
-                follow-ends t s st l c (kept .to-spare t s l o c (unseen (start .spareSeen) (st .spareSeen) s (d .spares) f)) n d f m
+            at-mate : (p .covers t s ≡ true) × (st .spareSeen s ≡ false) → Tries st t (_≡_ s) (follow visit t s (st .mates s) (seeSpare s st))
+            at-mate (c, f) =
+                follow-ends t s st l c (kept .to-spare t s l o c (unseen (start .spareSeen) (st .spareSeen) s (d .spares) f)) (n c) d f m _ refl
 
         -- Once the goal is met the rest of the scan does nothing.
-        met-stays : (t s : ℕ) (st : Search) → st .met ≡ true → trySpare p goal visit t s st ≡ st
+        met-stays : (t s : ℕ) (st : Search) → st .met ≡ true → trySpare p visit t s st ≡ st
         unfolding trySpare
         met-stays t s st h = rw h
 
-        scan-met : (t turns i : ℕ) (st : Search) → st .met ≡ true → scan (trySpare p goal visit t) turns i st ≡ st
+        scan-met : (t turns i : ℕ) (st : Search) → st .met ≡ true → scan (trySpare p visit t) turns i st ≡ st
         unfolding scan
         scan-met t zero i st h = refl
         scan-met t (suc turns) i st h = rw (met-stays t i st h) (scan-met t turns (suc i) st h)
 
-        scan-ends : (t turns i : ℕ) (st : Search) → i + turns ≡ p .spares → OnTree t → During start st → p .trees ≤ depth + count (p .trees) (st .treeSeen) → Tries st t (λ s. (i ≤ s) × (s < p .spares)) (scan (trySpare p goal visit t) turns i st)
+        scan-ends : (t turns i : ℕ) (st : Search) → i + turns ≡ p .spares → ((s : ℕ) → s < p .spares → p .covers t s ≡ true → s ≢ goal) → OnTree t → During p goal start st → p .trees ≤ depth + count (p .trees) (st .treeSeen) → Tries st t (λ s. (i ≤ s) × (s < p .spares)) (scan (trySpare p visit t) turns i st)
         unfolding scan
-        scan-ends t zero i st e o d m =
+        scan-ends t zero i st e n o d m =
             inl (grown-refl p goal (start .mates) OnTree OnSpare st (d .unmet), λ s q _. absurd (omega (arith, q .0, q .1)))
-        scan-ends t (suc turns) i st e o d m = after (trySpare p goal visit t i st) (try-ends t i st (omega arith) o d m) (scan-ends t turns (suc i) (trySpare p goal visit t i st) (omega arith) o)
+        scan-ends t (suc turns) i st e n o d m = after (trySpare p visit t i st) (try-ends t i st (omega arith) (n i (omega arith)) o d m) (scan-ends t turns (suc i) (trySpare p visit t i st) (omega arith) n o)
           where
             join : (st′ st″ : Search) → Grows st st′ × ((s : ℕ) → i ≡ s → p .covers t s ≡ true → st′ .spareSeen s ≡ true) → Tries st′ t (λ s. (suc i ≤ s) × (s < p .spares)) st″ → Tries st t (λ s. (i ≤ s) × (s < p .spares)) st″
             join st′ st″ x (inl y) =
@@ -335,43 +336,86 @@ module _
                 )
             join st′ st″ x (inr y) = inr (y .0, rw (x .0 .mates) at (y .1))
 
-            after : (st′ : Search) → Tries st t (_≡_ i) st′ → (During start st′ → p .trees ≤ depth + count (p .trees) (st′ .treeSeen) → Tries st′ t (λ s. (suc i ≤ s) × (s < p .spares)) (scan (trySpare p goal visit t) turns (suc i) st′)) → Tries st t (λ s. (i ≤ s) × (s < p .spares)) (scan (trySpare p goal visit t) turns (suc i) st′)
+            after : (st′ : Search) → Tries st t (_≡_ i) st′ → (During p goal start st′ → p .trees ≤ depth + count (p .trees) (st′ .treeSeen) → Tries st′ t (λ s. (suc i ≤ s) × (s < p .spares)) (scan (trySpare p visit t) turns (suc i) st′)) → Tries st t (λ s. (i ≤ s) × (s < p .spares)) (scan (trySpare p visit t) turns (suc i) st′)
             after st′ (inr x) rest = rw (scan-met t turns (suc i) st′ (x .0)) (inr x)
             after st′ (inl x) rest =
-                join st′ (scan (trySpare p goal visit t) turns (suc i) st′) x
+                join st′ (scan (trySpare p visit t) turns (suc i) st′) x
                 (rest (during-grown p goal start OnTree OnSpare st st′ d (x .0))
                 (omega (arith, count-within (p .trees) (st .treeSeen) (st′ .treeSeen) (λ y _. x .0 .trees y))))
 
-    tree-ends : (depth t : ℕ) (st : Search) → OnTree t → During start st → p .trees < depth + count (p .trees) (put (st .treeSeen) t true) → Visits st t (tryTree p goal depth t st)
+    -- The unmatched non-tree ranks that cover tree rank t visited: none is the goal, and no mate follows.
+    grown-free : (t : ℕ) (st : Search) → ((s : ℕ) → s < p .spares → p .covers t s ≡ true → s ≢ goal) → OnTree t → During p goal start st → Grows st (seeFree p t st)
+    grown-free t st n o d =
+        record {
+          trees = λ x q. q;
+          spares = λ s q. rw q;
+          new-tree = λ x q. inl q;
+          new-spare = λ s q. elim (truth (st .spareSeen s)) [
+            | inl h ↦ inl h
+            | inr h ↦ inr (closed s h (rw h at q))
+          ];
+          mates = refl;
+          unmet = d .unmet;
+        }
+      where
+        closed : (s : ℕ) → st .spareSeen s ≡ false → (ltb s (p .spares) && p .covers t s && eqb (st .mates s) 0) ≡ true → SpareClosed p goal (start .mates) OnSpare (st .treeSeen) s
+        closed s f h =
+            let both : (ltb s (p .spares) && p .covers t s) ≡ true = and-first (ltb s (p .spares) && p .covers t s) (eqb (st .mates s) 0) h in
+            let l : s < p .spares = ltb-true s (p .spares) (and-first (ltb s (p .spares)) (p .covers t s) both) in
+            let c : p .covers t s ≡ true = and-second (ltb s (p .spares)) (p .covers t s) both in
+            let free : st .mates s ≡ 0 = eqb-true (st .mates s) 0 (and-second (ltb s (p .spares) && p .covers t s) (eqb (st .mates s) 0) h) in
+            record {
+              below = l;
+              holds = kept .to-spare t s l o c (unseen (start .spareSeen) (st .spareSeen) s (d .spares) f);
+              missed = n s l c;
+              followed = λ x q. absurd (omega (arith, d .mates s f));
+            }
+
+    tree-ends : (depth t : ℕ) (st : Search) → OnTree t → During p goal start st → p .trees < depth + count (p .trees) (put (st .treeSeen) t true) → Visits st t (tryTree p goal depth t st)
     unfolding tryTree
     tree-ends zero t st o d m = absurd (omega (arith, count-below (p .trees) (put (st .treeSeen) t true)))
     tree-ends (suc depth) t st o d m =
-        whole _
-        (scan-ends depth (tryTree p goal depth) (tree-ends depth) t _ 0 (seeTree t st) (omega arith) o
-        (during-see-tree start t st d)
-        (omega arith))
+        choose-both (Visits st t) (ltb goal (p .spares) && p .covers t goal) _ _
+        (λ h.
+        let l : goal < p .spares = ltb-true goal (p .spares) (and-first (ltb goal (p .spares)) (p .covers t goal) h) in
+        inr (refl, stop l (and-second (ltb goal (p .spares)) (p .covers t goal) h) (d .mates goal (d .ahead l))))
+        (λ h. whole h _
+        (scan-ends depth (tryTree p goal depth) (tree-ends depth) t _ 0 (seeFree p t (seeTree t st)) (omega arith) (missed h) o
+        (during-grown p goal start OnTree OnSpare (seeTree t st) (seeFree p t (seeTree t st)) seen (free h))
+        (omega arith)))
       where
-        whole : (st′ : Search) → Tries (seeTree t st) t (λ s. (0 ≤ s) × (s < p .spares)) st′ → Visits st t st′
-        whole st′ (inl x) =
+        seen : During p goal start (seeTree t st)
+        seen = during-see-tree p goal start t st d
+
+        missed : (ltb goal (p .spares) && p .covers t goal) ≡ false → (s : ℕ) → s < p .spares → p .covers t s ≡ true → s ≢ goal
+        missed h s l c e =
+            clash (rw e at c) (and-miss (ltb goal (p .spares)) (p .covers t goal) h (lt-ltb goal (p .spares) (omega arith)))
+
+        free : (ltb goal (p .spares) && p .covers t goal) ≡ false → Grows (seeTree t st) (seeFree p t (seeTree t st))
+        free h = grown-free t (seeTree t st) (missed h) o seen
+
+        whole : (ltb goal (p .spares) && p .covers t goal) ≡ false → (st′ : Search) → Tries (seeFree p t (seeTree t st)) t (λ s. (0 ≤ s) × (s < p .spares)) st′ → Visits st t st′
+        whole h st′ (inl x) =
             let closed : TreeClosed p OnTree (st′ .spareSeen) t = record { holds = o; tried = λ s l c. x .1 s (omega arith, l) c } in
+            let grown : Grows (seeTree t st) st′ = grown-trans p goal (start .mates) OnTree OnSpare (seeTree t st) (seeFree p t (seeTree t st)) st′ (free h) (x .0) in
             inl
             (record {
-              grown = grown-tree p goal (start .mates) OnTree OnSpare t st st′ (x .0) closed;
+              grown = grown-tree p goal (start .mates) OnTree OnSpare t st st′ grown closed;
               seen = x .0 .trees t (put-same (st .treeSeen) t true);
               closed = closed;
             })
-        whole st′ (inr x) = inr x
+        whole h st′ (inr x) = inr x
 
     -- How a search ends.
-    pub search-ends : (t : ℕ) → OnTree t → start .met ≡ false → Visited p goal (start .mates) OnTree OnSpare start t (search p goal t start)
-    search-ends t o h =
+    pub search-ends : (t : ℕ) → OnTree t → (goal < p .spares → start .spareSeen goal ≡ false) → start .met ≡ false → Visited p goal (start .mates) OnTree OnSpare start t (search p goal t start)
+    search-ends t o f h =
         tree-ends _ t start o
-        record { trees = λ x q. q; spares = λ x q. q; mates = λ x q. refl; unmet = h }
+        record { trees = λ x q. q; spares = λ x q. q; mates = λ x q. refl; ahead = f; unmet = h }
         (omega arith)
 
     -- A search without a goal explores all.
     pub search-explores : (t : ℕ) → OnTree t → start .met ≡ false → goal ≡ p .spares → Explored p goal (start .mates) OnTree OnSpare start t (search p goal t start)
-    search-explores t o h e = all (search-ends t o h)
+    search-explores t o h e = all (search-ends t o (λ l. absurd (omega arith)) h)
       where
         all : Visited p goal (start .mates) OnTree OnSpare start t (search p goal t start) → Explored p goal (start .mates) OnTree OnSpare start t (search p goal t start)
         all (inl x) = x
@@ -386,7 +430,7 @@ kept-always p start = record { to-spare = λ t s l o c f. tt; to-mate = λ s t l
 
 -- What the search without a goal visits, the search for it meets.
 pub search-meets : (p : Problem) (start : Search) → ((s t : ℕ) → s < p .spares → start .mates s ≡ suc t → t < p .trees) → start .met ≡ false → (t goal : ℕ) → search p (p .spares) t start .spareSeen goal ≡ true → start .spareSeen goal ≡ false → AugmentingPath p goal (start .mates) (start .mates) t (search p goal t start .mates)
-search-meets p start below unmet t goal h f = at-end (search-ends p goal start Always Always (kept-always p start) below t tt unmet)
+search-meets p start below unmet t goal h f = at-end (search-ends p goal start Always Always (kept-always p start) below t tt (λ _. f) unmet)
   where
     out : Search
     out = search p goal t start

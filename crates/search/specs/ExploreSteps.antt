@@ -1,48 +1,69 @@
 -- A search without a goal explores: it meets nothing and leaves the mates as they were. Assumes nothing.
-use Prim.Native.Nat.{ℕ, suc, _<_}
+use Prim.Native.Nat.{ℕ, zero, suc, _≤_, _<_}
 use native.Mathlib.Omega.{arith}
-use mathlib.Core.Path.{_≡_, refl, sym, ap, _∙_}
-use mathlib.Core.Bool.{Bool, false}
+use mathlib.Core.Path.{_≡_, refl, sym, ap, _∙_, fun-ext}
+use mathlib.Core.Bool.{Bool, false, not}
 use mathlib.Core.List.{List}
-use Rattle.optimum.specs.Search.{Problem, Search, search}
+use lib.Dec.{eqb}
+use borrow.Author.Tests.{le-ltb}
+use Rattle.loops.specs.Loop.{scan}
+use Rattle.optimum.specs.Search.{Problem, Mates, Search, seeTree, seeFree, trySpare, tryTree, search}
 use Rattle.optimum.specs.SearchLaws.{Explored, Always, kept-always, search-explores}
-use Rattle.search.specs.State.{matesOf, stateOf, Ready, TreeTried, Suits, Swept}
-use Rattle.search.specs.TreeSteps.{tree-reached}
+use Rattle.search.specs.State.{matesOf, stateOf, Below, Taken, Ready, TreeTried, Suits, Swept}
+use Rattle.search.specs.TreeSteps.{rowsProblem, rows-problem}
+
+-- Whatever number past the spare ranks stands for no goal.
+no-goal : (p : Problem) (goal other : ℕ) → p .spares ≤ goal → p .spares ≤ other → (depth t : ℕ) (st : Search) → tryTree p goal depth t st ≡ tryTree p other depth t st
+unfolding tryTree
+no-goal p goal other l m zero t st = refl
+no-goal p goal other l m (suc depth) t st =
+    rw (le-ltb goal (p .spares) l, le-ltb other (p .spares) m)
+    (ap (λ (visit : ℕ → Search → Search). scan (trySpare p visit t) (p .spares) 0 (seeFree p t (seeTree t st)))
+    (fun-ext (λ u. fun-ext (no-goal p goal other l m depth u))))
+
+-- Mates that are the same have the same bounds and leave the same ranks matched.
+module _ (mates mates′ : List ℕ) (same : matesOf mates′ ≡ matesOf mates) where
+  pub below-same : (n : ℕ) → Below n mates → Below n mates′
+  below-same n b s = rw (ap (λ (m : Mates). m s) same) (b s)
+
+  pub taken-same : (taken : List ℕ) → Taken mates taken → Taken mates′ taken
+  taken-same taken h s l = h s l ∙ ap (λ (m : Mates). not (eqb (m s) 0)) (sym same)
 
 module _
-    (t spares : ℕ)
+    (t : ℕ)
     (rows mates : List ℕ)
     (trees : ℕ)
     (seen mates′ : List ℕ)
     (trees′ : ℕ)
     (seen′ : List ℕ)
     (met : Bool)
-    (tried : TreeTried t spares rows mates trees seen mates′ trees′ seen′ met)
+    (tried : TreeTried t 256 rows mates trees seen mates′ trees′ seen′ met)
   where
     abbrev start : Search
     start = stateOf mates trees seen false
 
-    module _ (p : Problem) (h : Suits p spares rows mates) (l : t < p .trees) where
-      whole : stateOf mates′ trees′ seen′ met ≡ search p (p .spares) t start
-      whole =
-          tried .equal p (p .trees) (h .rows-are) (h .below) l (omega arith)
-          ∙ ap (λ (goal : ℕ). search p goal t start) (sym (h .spares-are))
+    whole : (p : Problem) → Suits p rows mates → t < p .trees → stateOf mates′ trees′ seen′ met ≡ search p (p .spares) t start
+    whole p h l =
+        tried .equal p (p .trees) (h .rows-are) (h .below) l (omega arith)
+        ∙ no-goal p 256 (p .spares) (h .rows-are .few) (omega arith) (suc (p .trees)) t start
 
-      mate-below : (s u : ℕ) → s < p .spares → matesOf mates s ≡ suc u → u < p .trees
-      mate-below s u k e = omega (arith, h .below s)
-
-      explored : Explored p (p .spares) (matesOf mates) Always Always start t (search p (p .spares) t start)
-      explored = search-explores p (p .spares) start Always Always (kept-always p start) mate-below t tt refl refl
-
-      unmet : met ≡ false
-      unmet = ap (λ (st : Search). st .met) whole ∙ explored .grown .unmet
-
-    pub swept : Ready t mates seen → Swept t spares rows mates trees seen mates′ trees′ seen′
-    swept r =
+    pub swept : (taken : List ℕ) → Ready t taken mates seen → Swept t rows mates trees seen mates′ trees′ seen′
+    swept taken r =
         record {
           mates-length = tried .mates-length;
           seen-length = tried .seen-length;
-          below = λ n k b. tree-reached t spares rows mates trees seen mates′ trees′ seen′ met (r .rank) (r .below) tried n k b .below;
-          same = λ p h l. ap (λ (st : Search). st .mates) (whole p h l) ∙ explored p h l .grown .mates;
-          equal = λ p h l. ap (stateOf mates′ trees′ seen′) (sym (unmet p h l)) ∙ whole p h l;
+          same = ap (λ (st : Search). st .mates) alone ∙ explored .grown .mates;
+          equal = λ p h l. ap (stateOf mates′ trees′ seen′) (sym unmet) ∙ whole p h l;
         }
+      where
+        -- The rows alone tell that nothing is met.
+        alone : stateOf mates′ trees′ seen′ met ≡ search (rowsProblem rows) 256 t start
+        alone = whole (rowsProblem rows) (record { rows-are = rows-problem rows; below = r .below }) (r .rank)
+
+        explored : Explored (rowsProblem rows) 256 (matesOf mates) Always Always start t (search (rowsProblem rows) 256 t start)
+        explored =
+            search-explores (rowsProblem rows) 256 start Always Always (kept-always (rowsProblem rows) start)
+            (λ s u k e. omega (arith, r .below s)) t tt refl refl
+
+        unmet : met ≡ false
+        unmet = ap (λ (st : Search). st .met) alone ∙ explored .grown .unmet

@@ -2,14 +2,15 @@
 -- Definitions only. Assumes nothing.
 use Prim.Native.Nat.{ℕ, suc, _+_, _≤_, _<_}
 use mathlib.Core.Path.{_≡_}
-use mathlib.Core.Bool.{Bool, true, false}
+use mathlib.Core.Bool.{Bool, true, false, not}
 use mathlib.Core.List.{List}
+use lib.Dec.{eqb}
 use lib.ListN.{length, getD}
 use Rattle.loops.specs.Loop.{put}
 use Rattle.bits.specs.Bit.{bit}
 use Rattle.sets.specs.Sets.{member, inRow}
 use Rattle.graph.specs.Graph.{count}
-use Rattle.optimum.specs.Search.{Problem, Mates, Search, tryPartner, tryTree, search}
+use Rattle.optimum.specs.Search.{Problem, Mates, Search, seeSpare, follow, tryTree, search}
 
 -- The matching that an array holds.
 abbrev pub matesOf : List ℕ → Mates
@@ -24,6 +25,10 @@ stateOf mates trees spares met =
 abbrev pub Below : ℕ → List ℕ → Type 0
 Below n mates = (s : ℕ) → getD mates s 0 ≤ n
 
+-- The set of the matched spare ranks.
+abbrev pub Taken : List ℕ → List ℕ → Type 0
+Taken mates taken = (s : ℕ) → s < 256 → member taken s ≡ not (eqb (getD mates s 0) 0)
+
 -- The rows say which spare rank covers which tree rank of p, and hold nothing past its spare ranks.
 pub record Rows (p : Problem) (rows : List ℕ) : Type 0 where
   pub few : p .spares ≤ 256
@@ -31,11 +36,12 @@ pub record Rows (p : Problem) (rows : List ℕ) : Type 0 where
   pub past : (t s : ℕ) → t < p .trees → p .spares ≤ s → s < 256 → inRow rows t s ≡ false
 
 -- What a search needs.
-pub record Ready (t : ℕ) (mates spares : List ℕ) : Type 0 where
+pub record Ready (t : ℕ) (taken mates spares : List ℕ) : Type 0 where
   pub rank : t < 64
   pub mates-length : length mates ≡ 256
   pub seen-length : length spares ≡ 4
   pub below : Below 64 mates
+  pub taken-are : Taken mates taken
 
 -- What a search leaves: sizes, and the model's state. The depth k is any that the tree ranks not yet seen allow.
 pub record TreeTried (t goal : ℕ) (rows mates : List ℕ) (trees : ℕ) (spares mates′ : List ℕ) (trees′ : ℕ) (spares′ : List ℕ) (met : Bool) : Type 0 where
@@ -46,27 +52,25 @@ pub record TreeTried (t goal : ℕ) (rows mates : List ℕ) (trees : ℕ) (spare
       → p .trees ≤ k + count (p .trees) (put (bit trees) t true)
       → stateOf mates′ trees′ spares′ met ≡ tryTree p goal (suc k) t (stateOf mates trees spares false)
 
--- What trying spare rank s leaves.
+-- What trying spare rank s, a matched one, leaves.
 pub record SpareTried (t s goal : ℕ) (rows mates : List ℕ) (trees : ℕ) (spares mates′ : List ℕ) (trees′ : ℕ) (spares′ : List ℕ) (met : Bool) : Type 0 where
   pub mates-length : length mates′ ≡ 256
   pub seen-length : length spares′ ≡ 4
   pub equal :
       (p : Problem) (k : ℕ) → Rows p rows → Below (p .trees) mates → t < p .trees
       → p .trees ≤ k + count (p .trees) (bit trees)
-      → stateOf mates′ trees′ spares′ met ≡ tryPartner goal (tryTree p goal k) t s (stateOf mates trees spares false)
+      → stateOf mates′ trees′ spares′ met ≡ follow (tryTree p goal k) t s (getD mates s 0) (seeSpare s (stateOf mates trees spares false))
 
 -- The arrays hold a problem's rows and mates.
-pub record Suits (p : Problem) (spares : ℕ) (rows mates : List ℕ) : Type 0 where
-  pub spares-are : p .spares ≡ spares
+pub record Suits (p : Problem) (rows mates : List ℕ) : Type 0 where
   pub rows-are : Rows p rows
   pub below : Below (p .trees) mates
 
--- A search without a goal.
-pub record Swept (t spares : ℕ) (rows mates : List ℕ) (trees : ℕ) (seen mates′ : List ℕ) (trees′ : ℕ) (seen′ : List ℕ) : Type 0 where
+-- What a search without a goal leaves: sizes, the mates as they were, and the model's state.
+pub record Swept (t : ℕ) (rows mates : List ℕ) (trees : ℕ) (seen mates′ : List ℕ) (trees′ : ℕ) (seen′ : List ℕ) : Type 0 where
   pub mates-length : length mates′ ≡ 256
   pub seen-length : length seen′ ≡ 4
-  pub below : (n : ℕ) → t < n → Below n mates → Below n mates′
-  pub same : (p : Problem) → Suits p spares rows mates → t < p .trees → matesOf mates′ ≡ matesOf mates
+  pub same : matesOf mates′ ≡ matesOf mates
   pub equal :
-      (p : Problem) → Suits p spares rows mates → t < p .trees
+      (p : Problem) → Suits p rows mates → t < p .trees
       → stateOf mates′ trees′ seen′ false ≡ search p (p .spares) t (stateOf mates trees seen false)

@@ -121,7 +121,7 @@ module _ (j : Job) (as₁ as₂ as₃ as₄ ts mask : List ℕ) (h : Held j as�
           }
 
       -- What the matching, the labels and the partners then are.
-      module _ (mates mates′ costs mate : List ℕ) (built : Built (j .nodes - 1) q as₃ ts ss rows mates) (costed : Costed (j .nodes - 1) q as₃ ts ss rows mates mates′ costs) (joined : (p : ℕ) → ((s : ℕ) → s < q → getD mates′ s 0 ≤ p) → _≡_ {A = ℕ → ℕ} (λ e. getD mate e 0) (partners (take p ts) (take q ss) (λ s. getD mates′ s 0))) where
+      module _ (mates taken mates′ costs mate : List ℕ) (built : Built (j .nodes - 1) q as₃ ts ss rows mates taken) (costed : Costed (j .nodes - 1) q as₃ ts ss rows mates mates′ costs) (joined : (p : ℕ) → ((s : ℕ) → s < q → getD mates′ s 0 ≤ p) → _≡_ {A = ℕ → ℕ} (λ e. getD mate e 0) (partners (take p ts) (take q ss) (λ s. getD mates′ s 0))) where
         mates-are : matesOf mates ≡ matching pr
         mates-are = built .equal pr tree-count holds
 
@@ -129,7 +129,7 @@ module _ (j : Job) (as₁ as₂ as₃ as₄ ts mask : List ℕ) (h : Held j as�
         new-are = costed .new pr tree-count holds ∙ (λ i. newCosts (h .ranks i) (ss-are i) (labels pr (mates-are i)))
 
         mate-are : _≡_ {A = ℕ → ℕ} (λ e. getD mate e 0) (partners treeList′ spareList′ (matching pr))
-        mate-are = joined (j .nodes - 1) (λ s l. costed .below s) ∙ (λ i. partners (h .ranks i) (ss-are i) ((costed .same pr tree-count holds ∙ mates-are) i))
+        mate-are = joined (j .nodes - 1) (λ s l. costed .below s) ∙ (λ i. partners (h .ranks i) (ss-are i) ((costed .same ∙ mates-are) i))
 
         pub steps-are : sum m (λ e. gap (getD costs e 0) (getD as₃ e 0)) ≡ answerOf j .steps
         unfolding solve

@@ -11,7 +11,7 @@ use Rattle.frame.specs.Answers.{answerOf}
 use Rattle.frame.specs.Meaning.{Accepted}
 use Rattle.answer.specs.Contents.{answerAt}
 use Rattle.job.specs.Held.{zeros}
-use Rattle.search.specs.State.{matesOf, Below}
+use Rattle.search.specs.State.{matesOf, Below, Taken}
 use Rattle.matching.specs.Progress.{Edges, Holds}
 use Rattle.service.specs.Accepting.{Held}
 
@@ -20,8 +20,8 @@ pub record Widened (label wide : List ℕ) : Type 0 where
   pub same : (k : ℕ) → k < 64 → getD wide k 0 ≡ getD label k 0
   pub places : length wide ≡ 256
 
--- What placing new costs needs: a matching, ranks that name edges, and an array of zeros.
-pub record Costable (trees spares : ℕ) (ts ss mates costs : List ℕ) : Type 0 where
+-- What placing new costs needs: a matching and the set of its spare ranks, ranks that name edges, and an array of zeros.
+pub record Costable (trees spares : ℕ) (ts ss taken mates costs : List ℕ) : Type 0 where
   pub few-trees : trees ≤ 64
   pub few-spares : spares ≤ 256
   pub tree-edges : Edges trees ts
@@ -30,12 +30,13 @@ pub record Costable (trees spares : ℕ) (ts ss mates costs : List ℕ) : Type 0
   pub spare-places : length ss ≡ 256
   pub mates-length : length mates ≡ 256
   pub below : Below trees mates
+  pub taken-are : Taken mates taken
   pub empty : costs ≡ zeros 256
 
 -- What it leaves: the model's new costs by edge, and the mates as they were.
 pub record Costed (trees spares : ℕ) (cost ts ss rows mates mates′ costs : List ℕ) : Type 0 where
   pub below : Below trees mates′
-  pub same : (p : Problem) → p .trees ≡ trees → Holds p spares cost ts ss rows → matesOf mates′ ≡ matesOf mates
+  pub same : matesOf mates′ ≡ matesOf mates
   pub new :
       (p : Problem) → p .trees ≡ trees → Holds p spares cost ts ss rows
       → _≡_ {A = ℕ → ℕ} (λ e. getD costs e 0) (newCosts (take trees ts) (take spares ss) (labels p (matesOf mates)))

@@ -23,10 +23,11 @@ fn new_costs(
     ts: &[u32; 256],
     ss: &[u32; 256],
     rows: &[u64; 256],
+    taken: &[u64; 4],
     mates: &mut [u32; 256],
     costs: &mut [u32; 256],
 )
-    requires { ⌜ Costable trees spares (now ts) (now ss) (now mates) (now costs) ⌝ }
+    requires { ⌜ Costable trees spares (now ts) (now ss) (now taken) (now mates) (now costs) ⌝ }
     ensures { λ r. ⌜ Costed trees spares (now (cost .entry)) (now (ts .entry)) (now (ss .entry)) (now (rows .entry)) (now (mates .entry)) (now (mates .exit)) (now (costs .exit)) ⌝ }
 {
     let mut tree_label = [0u32; 64];
@@ -38,6 +39,7 @@ fn new_costs(
         ts,
         ss,
         rows,
+        taken,
         mates,
         &mut tree_label,
         &mut spare_label,
@@ -77,8 +79,28 @@ pub fn solve(
     let mut rows = [0u64; 256];
     solution::fill_rows(spares, &ss, end1, end2, mask, &mut rows);
     let mut mates = [0u32; 256];
-    matching::build(trees, spares as u32, cost, ts, &ss, &rows, &mut mates);
-    new_costs(trees, spares, cost, ts, &ss, &rows, &mut mates, costs);
+    let mut taken = [0u64; 4];
+    matching::build(
+        trees,
+        spares as u32,
+        cost,
+        ts,
+        &ss,
+        &rows,
+        &mut mates,
+        &mut taken,
+    );
+    new_costs(
+        trees,
+        spares,
+        cost,
+        ts,
+        &ss,
+        &rows,
+        &taken,
+        &mut mates,
+        costs,
+    );
     let mut mate = [0u32; 256];
     solution::partners(ts, &ss, spares, &mates, &mut mate);
     let steps = solution::steps(edges, cost, costs);

@@ -229,3 +229,21 @@ pub first-fresh : (seen dead taken : List ℕ) (a b c d : ℕ)
 unfolding member
 first-fresh seen dead taken a b c d =
     first-of-words a b c d (λ k j. bit (getD seen k 0) j && not (bit (getD dead k 0) j) && not (bit (getD taken k 0) j))
+
+-- Every word of `seen` gains what is in the row and not in `taken`.
+pub free-added : (rows : List ℕ) (t : ℕ) (taken seen : List ℕ) (a b c d : ℕ) → length seen ≡ 4
+    → ((j : ℕ) → bit a j ≡ (bit (getD seen 0 0) j || (bit (getD rows (4 * t) 0) j && not (bit (getD taken 0 0) j))))
+    → ((j : ℕ) → bit b j ≡ (bit (getD (set seen 0 a) 1 0) j || (bit (getD rows (4 * t + 1) 0) j && not (bit (getD taken 1 0) j))))
+    → ((j : ℕ) → bit c j ≡ (bit (getD (set (set seen 0 a) 1 b) 2 0) j || (bit (getD rows (4 * t + 2) 0) j && not (bit (getD taken 2 0) j))))
+    → ((j : ℕ) → bit d j ≡ (bit (getD (set (set (set seen 0 a) 1 b) 2 c) 3 0) j || (bit (getD rows (4 * t + 3) 0) j && not (bit (getD taken 3 0) j))))
+    → (s : ℕ) → s < 256
+    → member (set (set (set (set seen 0 a) 1 b) 2 c) 3 d) s ≡ (member seen s || (inRow rows t s && not (member taken s)))
+unfolding inRow member
+free-added rows t taken (v ∷ w ∷ x ∷ y ∷ []) a b c d e in-a in-b in-c in-d s l =
+    words a b c d (λ k j. bit (getD (v ∷ w ∷ x ∷ y ∷ []) k 0) j || (bit (getD rows (4 * t + k) 0) j && not (bit (getD taken k 0) j)))
+    (rw add-zero in-a) in-b in-c in-d (s / 64) (omega arith) (s % 64)
+free-added rows t taken [] a b c d e in-a in-b in-c in-d s l = absurd (omega arith)
+free-added rows t taken (v ∷ []) a b c d e in-a in-b in-c in-d s l = absurd (omega arith)
+free-added rows t taken (v ∷ w ∷ []) a b c d e in-a in-b in-c in-d s l = absurd (omega arith)
+free-added rows t taken (v ∷ w ∷ x ∷ []) a b c d e in-a in-b in-c in-d s l = absurd (omega arith)
+free-added rows t taken (v ∷ w ∷ x ∷ y ∷ z ∷ r) a b c d e in-a in-b in-c in-d s l = absurd (omega arith)

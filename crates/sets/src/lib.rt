@@ -37,6 +37,34 @@ pub fn insert_in_row(rows: &mut [u64; 256], t: u32, s: u32)
     rows[k] = bits::with(rows[k], s % 64);
 }
 
+// Is `s` a member of row `t`?
+pub fn contains_in_row(rows: &[u64; 256], t: u32, s: u32) -> bool
+    requires { ⌜ (t < 64) × (s < 256) ⌝ }
+    ensures { λ r. ⌜ r ≡ inRow (now (rows .entry)) t s ⌝ }
+{
+    bits::has(rows[(4 * t + s / 64) as usize], s % 64)
+}
+
+// A word of `seen` with the members of a row's word that are not in `taken`.
+fn with_free(seen: u64, row: u64, taken: u64) -> u64
+    ensures { λ r. ⌜ ((j : ℕ) → bit r j ≡ (bit seen j || (bit row j && not (bit taken j)))) ⌝ }
+{
+    bits::either(seen, bits::less(row, taken))
+}
+
+// Puts the members of row `t` that are not in `taken` into `seen`.
+pub fn add_free(rows: &[u64; 256], t: u32, taken: &[u64; 4], seen: &mut [u64; 4])
+    requires { ⌜ (t < 64) × (length (now seen) ≡ 4) ⌝ }
+    ensures members { λ r. ⌜ ((s : ℕ) → s < 256 → member (now (seen .exit)) s ≡ (member (now (seen .entry)) s || (inRow (now (rows .entry)) t s && not (member (now (taken .entry)) s)))) ⌝ }
+    ensures length { λ r. ⌜ length (now (seen .exit)) ≡ 4 ⌝ }
+{
+    let k = (4 * t) as usize;
+    seen[0] = with_free(seen[0], rows[k], taken[0]);
+    seen[1] = with_free(seen[1], rows[k + 1], taken[1]);
+    seen[2] = with_free(seen[2], rows[k + 2], taken[2]);
+    seen[3] = with_free(seen[3], rows[k + 3], taken[3]);
+}
+
 // The lowest member of the set that four words hold; 256 if there is none.
 pub fn lowest_of(a: u64, b: u64, c: u64, d: u64) -> u32
     ensures { λ r. ⌜ r ≡ first 256 (member (a ∷ b ∷ c ∷ d ∷ [])) ⌝ }

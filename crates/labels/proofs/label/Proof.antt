@@ -8,11 +8,11 @@ use Rattle.labels.proofs.label.Statement.{statement}
 use Rattle.labels.proofs.label.Tie as tie
 
 abbrev Inv-loop : tie.InvT-loop
-Inv-loop trees spares cost ts ss rows mates₀ tree-label₀ spare-label₀ matched tree-done₀ spare-done₀ t₀ left₀ turns₀ mates tree-label spare-label tree-done spare-done t left turns =
-    Labelling trees spares cost ts ss rows mates₀ (store mates tree-done spare-done tree-label spare-label) t left turns
+Inv-loop trees spares cost ts ss rows taken mates₀ tree-label₀ spare-label₀ matched tree-done₀ spare-done₀ t₀ left₀ turns₀ mates tree-label spare-label tree-done spare-done t left turns =
+    Labelling trees spares cost ts ss rows taken mates₀ (store mates tree-done spare-done tree-label spare-label) t left turns
 
 abbrev μ-loop : tie.MeasureT-loop
-μ-loop trees spares cost ts ss rows mates₀ tree-label₀ spare-label₀ matched tree-done₀ spare-done₀ t₀ left₀ turns₀ mates tree-label spare-label tree-done spare-done t left turns = turns
+μ-loop trees spares cost ts ss rows taken mates₀ tree-label₀ spare-label₀ matched tree-done₀ spare-done₀ t₀ left₀ turns₀ mates tree-label spare-label tree-done spare-done t left turns = turns
 
 matched-trees-requires : tie.Need-matched-trees-requires Inv-loop μ-loop
 matched-trees-requires c κs =
@@ -25,7 +25,7 @@ add-turns c = omega (arith, c .before .before .pre .few-trees, c .before .before
 loop-holds : tie.Need-loop-holds Inv-loop μ-loop
 loop-holds c =
     let a = c .before .before .args in
-    labelling-start (a .trees) (a .spares) (a .cost .now) (a .ts .now) (a .ss .now) (a .rows .now) (a .mates .now) (a .tree-label .now) (a .spare-label .now) (c .before .before .pre)
+    labelling-start (a .trees) (a .spares) (a .cost .now) (a .ts .now) (a .ss .now) (a .rows .now) (a .taken .now) (a .mates .now) (a .tree-label .now) (a .spare-label .now) (c .before .before .pre)
 
 sub-turns : tie.Need-sub-turns Inv-loop μ-loop
 sub-turns c = omega arith
@@ -42,7 +42,7 @@ cost-at-requires c κs =
     let e = c .before .before .before .before .before .before in
     let a = e .args in
     let l = c .before .before .before .loop in
-    let k : l .t < a .trees = tree-there (a .trees) (a .spares) (a .cost .now) (a .ts .now) (a .ss .now) (a .rows .now) (a .mates .now)
+    let k : l .t < a .trees = tree-there (a .trees) (a .spares) (a .cost .now) (a .ts .now) (a .ss .now) (a .rows .now) (a .taken .now) (a .mates .now)
     (store (l .mates) (l .tree-done) (l .spare-done) (l .tree-label) (l .spare-label)) (l .t) (l .left) (l .turns) (l .inv) (c .before .before .loop-test .taken) (sym (c .before .tree-next .ensures) ∙ c .if1 .taken) in
     (omega (arith, e .pre .few-trees), e .pre .tree-edges (l .t) k)
 
@@ -51,7 +51,7 @@ label-tree-requires c κs =
     let e = c .before .before .before .before .before .before .before .before .before .before .before .before in
     let a = e .args in
     let l = c .before .before .before .before .before .before .before .before .before .loop in
-    let k : l .t < a .trees = tree-there (a .trees) (a .spares) (a .cost .now) (a .ts .now) (a .ss .now) (a .rows .now) (a .mates .now)
+    let k : l .t < a .trees = tree-there (a .trees) (a .spares) (a .cost .now) (a .ts .now) (a .ss .now) (a .rows .now) (a .taken .now) (a .mates .now)
     (store (l .mates) (l .tree-done) (l .spare-done) (l .tree-label) (l .spare-label)) (l .t) (l .left) (l .turns) (l .inv) (c .before .before .before .before .before .before .before .before .loop-test .taken) (sym (c .before .before .before .before .before .before .before .tree-next .ensures) ∙ c .before .before .before .before .before .before .if1 .taken) in
     (omega (arith, e .pre .few-trees), l .inv .sized)
 
@@ -70,7 +70,7 @@ loop-again c =
     let e = c .before .before .before .before .before .before .before .before .before .before .before .before .before in
     let a = e .args in
     let l = c .before .before .before .before .before .before .before .before .before .before .loop in
-    labelling-tree (a .trees) (a .spares) (a .cost .now) (a .ts .now) (a .ss .now) (a .rows .now) (a .mates .now)
+    labelling-tree (a .trees) (a .spares) (a .cost .now) (a .ts .now) (a .ss .now) (a .rows .now) (a .taken .now) (a .mates .now)
     (store (l .mates) (l .tree-done) (l .spare-done) (l .tree-label) (l .spare-label)) (l .t) (l .left) (l .turns) (l .inv)
     (c .before .before .before .before .before .before .before .before .before .loop-test .taken) (sym (c .before .before .before .before .before .before .before .before .tree-next .ensures) ∙ c .before .before .before .before .before .before .before .if1 .taken) (c .before .before .before .before .before .before .cost-at .result) (c .before .before .before .before .before .before .cost-at .ensures) (c .before .before .before .before .before .before .before .before .before .before .before .matched-trees .result) (c .before .before .before .before .before .before .before .before .before .before .before .matched-trees .ensures)
     (store (c .label-tree .last .1 .1 .1 .1 .1 .0) (c .label-tree .last .1 .1 .1 .1 .1 .1 .0) (c .label-tree .last .1 .1 .1 .1 .1 .1 .1 .0) (c .label-tree .last .1 .1 .1 .1 .1 .1 .1 .1 .0) (c .label-tree .last .1 .1 .1 .1 .1 .1 .1 .1 .1 .0)) (c .label-tree .ensures)
@@ -80,7 +80,7 @@ sub-left c =
     let e = c .before .before .before .before .before .before in
     let a = e .args in
     let l = c .before .before .before .loop in
-    spare-there (a .trees) (a .spares) (a .cost .now) (a .ts .now) (a .ss .now) (a .rows .now) (a .mates .now)
+    spare-there (a .trees) (a .spares) (a .cost .now) (a .ts .now) (a .ss .now) (a .rows .now) (a .taken .now) (a .mates .now)
     (store (l .mates) (l .tree-done) (l .spare-done) (l .tree-label) (l .spare-label)) (l .t) (l .left) (l .turns) (l .inv) (c .before .before .loop-test .taken) (sym (c .before .tree-next .ensures) ∙ c .if1 .left)
 
 cost-at-requires-2 : tie.Need-cost-at-requires-2 Inv-loop μ-loop
@@ -88,7 +88,7 @@ cost-at-requires-2 c κs =
     let e = c .before .before .before .before .before .before in
     let a = e .args in
     let l = c .before .before .before .loop in
-    let k : 0 < l .left = spare-there (a .trees) (a .spares) (a .cost .now) (a .ts .now) (a .ss .now) (a .rows .now) (a .mates .now)
+    let k : 0 < l .left = spare-there (a .trees) (a .spares) (a .cost .now) (a .ts .now) (a .ss .now) (a .rows .now) (a .taken .now) (a .mates .now)
     (store (l .mates) (l .tree-done) (l .spare-done) (l .tree-label) (l .spare-label)) (l .t) (l .left) (l .turns) (l .inv) (c .before .before .loop-test .taken) (sym (c .before .tree-next .ensures) ∙ c .if1 .left) in
     (omega (arith, l .inv .spares-within, e .pre .few-spares), e .pre .spare-edges (l .left - 1) (omega (arith, l .inv .spares-within)))
 
@@ -97,7 +97,7 @@ label-spare-requires c κs =
     let e = c .before .before .before .before .before .before .before .before .before .before .before .before in
     let a = e .args in
     let l = c .before .before .before .before .before .before .before .before .before .loop in
-    let k : 0 < l .left = spare-there (a .trees) (a .spares) (a .cost .now) (a .ts .now) (a .ss .now) (a .rows .now) (a .mates .now)
+    let k : 0 < l .left = spare-there (a .trees) (a .spares) (a .cost .now) (a .ts .now) (a .ss .now) (a .rows .now) (a .taken .now) (a .mates .now)
     (store (l .mates) (l .tree-done) (l .spare-done) (l .tree-label) (l .spare-label)) (l .t) (l .left) (l .turns) (l .inv) (c .before .before .before .before .before .before .before .before .loop-test .taken) (sym (c .before .before .before .before .before .before .before .tree-next .ensures) ∙ c .before .before .before .before .before .before .if1 .left) in
     (omega (arith, l .inv .spares-within, e .pre .few-spares), l .inv .sized)
 
@@ -109,7 +109,7 @@ loop-again-2 c =
     let e = c .before .before .before .before .before .before .before .before .before .before .before .before .before in
     let a = e .args in
     let l = c .before .before .before .before .before .before .before .before .before .before .loop in
-    labelling-spare (a .trees) (a .spares) (a .cost .now) (a .ts .now) (a .ss .now) (a .rows .now) (a .mates .now)
+    labelling-spare (a .trees) (a .spares) (a .cost .now) (a .ts .now) (a .ss .now) (a .rows .now) (a .taken .now) (a .mates .now)
     (store (l .mates) (l .tree-done) (l .spare-done) (l .tree-label) (l .spare-label)) (l .t) (l .left) (l .turns) (l .inv)
     (c .before .before .before .before .before .before .before .before .before .loop-test .taken) (sym (c .before .before .before .before .before .before .before .before .tree-next .ensures) ∙ c .before .before .before .before .before .before .before .if1 .left) (c .before .before .before .before .before .before .cost-at2 .result) (c .before .before .before .before .before .before .cost-at2 .ensures)
     (store (c .label-spare .last .1 .1 .1 .1 .0) (c .label-spare .last .1 .1 .1 .1 .1 .0) (c .label-spare .last .1 .1 .1 .1 .1 .1 .0) (c .label-spare .last .1 .1 .1 .1 .1 .1 .1 .0) (c .label-spare .last .1 .1 .1 .1 .1 .1 .1 .1 .0)) (c .label-spare .ensures)
@@ -119,7 +119,7 @@ returns c =
     let e = c .before .before .before .before in
     let a = e .args in
     let l = c .before .loop in
-    labelling-end (a .trees) (a .spares) (a .cost .now) (a .ts .now) (a .ss .now) (a .rows .now) (a .mates .now)
+    labelling-end (a .trees) (a .spares) (a .cost .now) (a .ts .now) (a .ss .now) (a .rows .now) (a .taken .now) (a .mates .now)
     (store (l .mates) (l .tree-done) (l .spare-done) (l .tree-label) (l .spare-label)) (l .t) (l .left) (l .turns) (l .inv) (c .loop-test .left)
 
 pub label-spec : {M : Type 1} → statement M

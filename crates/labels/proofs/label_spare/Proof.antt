@@ -13,7 +13,7 @@ returns : tie.Need-returns
 returns c =
     let e = c .before .before .before in
     let a = e .args in
-    spare-done (a .s .0) (a .x) (a .spares) (a .rows .now) (store (a .mates .now) (a .tree-done .now) (a .spare-done .now) (a .tree-label .now) (a .spare-label .now)) (e .pre .1) (sym (c .before .contains .ensures) ∙ c .if1 .taken)
+    spare-done (a .s .0) (a .x) (a .rows .now) (a .taken .now) (store (a .mates .now) (a .tree-done .now) (a .spare-done .now) (a .tree-label .now) (a .spare-label .now)) (e .pre .1) (sym (c .before .contains .ensures) ∙ c .if1 .taken)
 
 insert-requires : tie.Need-insert-requires
 insert-requires c κs = search needs
@@ -29,7 +29,7 @@ returns-2 c =
     let e = c .before .before .before .before .before .before .before .before .before .before .before .before .before .before .before .before in
     let a = e .args in
     let f = c .before .before .before .before .before .explore-mate in
-    spare-labelled (a .s .0) (a .x) (a .spares) (a .rows .now) (store (a .mates .now) (a .tree-done .now) (a .spare-done .now) (a .tree-label .now) (a .spare-label .now)) (e .pre .1) (sym (c .before .before .before .before .before .before .before .before .before .before .before .before .before .before .contains .ensures) ∙ c .before .before .before .before .before .before .before .before .before .before .before .before .before .if1 .left) (c .before .before .before .before .before .before .before .before .before .insert .last .0) (c .before .before .before .before .before .before .before .before .before .insert .ensures .0)
+    spare-labelled (a .s .0) (a .x) (a .rows .now) (a .taken .now) (store (a .mates .now) (a .tree-done .now) (a .spare-done .now) (a .tree-label .now) (a .spare-label .now)) (e .pre .1) (sym (c .before .before .before .before .before .before .before .before .before .before .before .before .before .before .contains .ensures) ∙ c .before .before .before .before .before .before .before .before .before .before .before .before .before .if1 .left) (c .before .before .before .before .before .before .before .before .before .insert .last .0) (c .before .before .before .before .before .before .before .before .before .insert .ensures .0)
     (store (f .last .1 .1 .1 .0) (f .last .1 .1 .1 .1 .0) (f .last .1 .1 .1 .1 .1 .0) (c .relabel .last .1 .1 .1 .1 .1 .0) (c .relabel .last .1 .1 .1 .1 .1 .1 .0)) (f .ensures) (c .relabel .ensures)
 
 pub label-spare-spec : {M : Type 1} → statement M

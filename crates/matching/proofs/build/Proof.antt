@@ -16,14 +16,14 @@ abbrev μ-loop : tie.MeasureT-loop
 loop-holds : tie.Need-loop-holds Inv-loop μ-loop
 loop-holds c =
     let a = c .args in
-    building-start (a .trees) (a .spares) (a .cost .now) (a .ts .now) (a .ss .now) (a .rows .now) (a .mates .now) (c .pre)
+    building-start (a .trees) (a .spares) (a .cost .now) (a .ts .now) (a .ss .now) (a .rows .now) (a .mates .now) (a .taken .now) (c .pre)
 
 augment-requires : tie.Need-augment-requires Inv-loop μ-loop
 augment-requires c κs =
     let e = c .before .before .before .before .before .before in
     let a = e .args in
     let l = c .before .before .before .before .before .loop in
-    building-ready (a .trees) (a .spares) (a .cost .now) (a .ts .now) (a .ss .now) (a .rows .now) (l .mates) (l .taken) (l .tree-dead) (l .spare-dead) (l .t) (l .inv) (a .mates .now) (e .pre) (c .before .before .before .before .loop-test .taken)
+    building-ready (a .trees) (a .spares) (a .cost .now) (a .ts .now) (a .ss .now) (a .rows .now) (l .mates) (l .taken) (l .tree-dead) (l .spare-dead) (l .t) (l .inv) (a .mates .now) (a .taken .now) (e .pre) (c .before .before .before .before .loop-test .taken)
 
 add-t : tie.Need-add-t Inv-loop μ-loop
 add-t c = omega (arith, c .before .before .before .before .before .before .before .pre .few-trees)

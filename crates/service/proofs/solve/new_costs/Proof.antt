@@ -23,6 +23,7 @@ label-requires c κs =
       tree-length = refl;
       spare-length = refl;
       below = q .below;
+      taken-are = q .taken-are;
       no-tree = λ t. zero-at 64 t;
       no-spare = λ s. zero-at 256 s;
     }
@@ -47,7 +48,7 @@ returns c =
     let l = w .before .before .before in
     let st = l .before .before .before .before in
     let a = st .args in
-    costed (a .trees) (a .spares) (a .cost .now) (a .ts .now) (a .ss .now) (a .rows .now) (a .mates .now) (l .label .last .1 .1 .1 .1 .1 .1 .0) (l .label .last .1 .1 .1 .1 .1 .1 .1 .0) (l .label .last .1 .1 .1 .1 .1 .1 .1 .1 .0) (w .widen .last .1 .0) (a .costs .now) (p .place .last .1 .1 .1 .0) (c .place2 .last .1 .1 .1 .0)
+    costed (a .trees) (a .spares) (a .cost .now) (a .ts .now) (a .ss .now) (a .rows .now) (a .mates .now) (l .label .last .1 .1 .1 .1 .1 .1 .1 .0) (l .label .last .1 .1 .1 .1 .1 .1 .1 .1 .0) (l .label .last .1 .1 .1 .1 .1 .1 .1 .1 .1 .0) (w .widen .last .1 .0) (a .costs .now) (p .place .last .1 .1 .1 .0) (c .place2 .last .1 .1 .1 .0)
     (st .pre .few-trees) (l .label .ensures) (w .widen .ensures) (st .pre .empty) (p .place .ensures .0) (c .place2 .ensures .0)
 
 pub new-costs-spec : {M : Type 1} → statement M

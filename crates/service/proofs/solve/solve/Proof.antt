@@ -4,6 +4,7 @@ use mathlib.Core.Path.{refl, subst}
 use native.Mathlib.Omega.{arith}
 use lib.ListN.{getD}
 use Rattle.matching.specs.Progress.{Built}
+use Rattle.sets.specs.SetsLaws.{member-none}
 use Rattle.job.specs.Held.{zero-at}
 use Rattle.service.specs.Solving.{Costed}
 use Rattle.service.specs.SolveLaws.{few-spares, spare-edges, spare-ends, few-pairs, small-steps, answer-is}
@@ -43,7 +44,7 @@ cast-build c =
 
 build-requires : tie.Need-build-requires
 build-requires c κs =
-    let sr = c .before .before .before .before .before .before in
+    let sr = c .before .before .before .before .before .before .before in
     let st = sr .before .before in
     let a = st .args in
     let v = st .pre in
@@ -57,13 +58,15 @@ build-requires c κs =
       tree-edges = λ k l. hj .ranked .edge k (omega (arith, v .nodes-are));
       spare-edges = spare-edges j (a .end1 .now) (a .end2 .now) (a .cost .now) (a .mark .now) (a .ts .now) (a .mask .now) hj aj (a .edges) (sr .spare-ranks .result) (sr .spare-ranks .last .1 .1 .1 .0) pm (sr .spare-ranks .ensures .0) (sr .spare-ranks .ensures .1 .0);
       mates-length = refl;
+      taken-length = refl;
       empty = λ s. zero-at 256 s;
+      none-taken = λ s. member-none 4 s;
     }
 
 new-costs-requires : tie.Need-new-costs-requires
 new-costs-requires c κs =
-    let bu = c .before .before .before .before in
-    let sr = bu .before .before .before .before .before .before .before in
+    let bu = c .before .before .before .before .before in
+    let sr = bu .before .before .before .before .before .before .before .before in
     let st = sr .before .before in
     let a = st .args in
     let v = st .pre in
@@ -80,13 +83,14 @@ new-costs-requires c κs =
       spare-places = sr .spare-ranks .ensures .1 .1;
       mates-length = bu .build .ensures .mates-length;
       below = bu .build .ensures .below;
+      taken-are = bu .build .ensures .taken-are;
       empty = v .empty;
     }
 
 partners-requires : tie.Need-partners-requires
 partners-requires c κs =
     let nc = c .before .before .before in
-    let sr = nc .before .before .before .before .before .before .before .before .before .before .before .before in
+    let sr = nc .before .before .before .before .before .before .before .before .before .before .before .before .before .before in
     let st = sr .before .before in
     let a = st .args in
     let v = st .pre in
@@ -96,20 +100,20 @@ partners-requires c κs =
     let pm = v .edges-are in
     let below = nc .new-costs .ensures .below in (
       record { places = sr .spare-ranks .ensures .1 .1; most = few-spares j (a .end1 .now) (a .end2 .now) (a .cost .now) (a .mark .now) (a .ts .now) (a .mask .now) hj aj (a .edges) (sr .spare-ranks .result) (sr .spare-ranks .last .1 .1 .1 .0) pm (sr .spare-ranks .ensures .0) (sr .spare-ranks .ensures .1 .0); edges = spare-edges j (a .end1 .now) (a .end2 .now) (a .cost .now) (a .mark .now) (a .ts .now) (a .mask .now) hj aj (a .edges) (sr .spare-ranks .result) (sr .spare-ranks .last .1 .1 .1 .0) pm (sr .spare-ranks .ensures .0) (sr .spare-ranks .ensures .1 .0) },
-      (record { ranks = λ s l. omega (arith, below s, v .nodes-are, aj .node-limit); edges = λ s l z. hj .ranked .edge (getD (nc .new-costs .last .1 .1 .1 .1 .1 .1 .0) s 0 - 1) (omega (arith, below s, v .nodes-are)) }, refl),
+      (record { ranks = λ s l. omega (arith, below s, v .nodes-are, aj .node-limit); edges = λ s l z. hj .ranked .edge (getD (nc .new-costs .last .1 .1 .1 .1 .1 .1 .1 .0) s 0 - 1) (omega (arith, below s, v .nodes-are)) }, refl),
     )
 
 steps-requires : tie.Need-steps-requires
 steps-requires c κs =
-    let v = c .before .before .before .before .before .before .before .before .before .before .before .before .before .before .before .before .before .before .before .pre in
+    let v = c .before .before .before .before .before .before .before .before .before .before .before .before .before .before .before .before .before .before .before .before .before .pre in
     omega (arith, v .edges-are, v .accepted .edge-limit)
 
 list-pairs-requires : tie.Need-list-pairs-requires
 list-pairs-requires c κs =
     let pa = c .before .before .before .before .before in
     let nc = pa .before .before .before .before in
-    let bu = nc .before .before .before .before .before in
-    let f = bu .before .before .before .before in
+    let bu = nc .before .before .before .before .before .before in
+    let f = bu .before .before .before .before .before in
     let sr = f .before .before .before in
     let st = sr .before .before in
     let a = st .args in
@@ -119,15 +123,15 @@ list-pairs-requires c κs =
     let aj = v .accepted in
     let pm = v .edges-are in
     let pn = v .nodes-are in
-    (omega (arith, v .edges-are, v .accepted .edge-limit), (few-pairs j (a .end1 .now) (a .end2 .now) (a .cost .now) (a .mark .now) (a .ts .now) (a .mask .now) hj aj (a .edges) (sr .spare-ranks .result) (sr .spare-ranks .last .1 .1 .1 .0) pm (sr .spare-ranks .ensures .0) (sr .spare-ranks .ensures .1 .0) (f .fill-rows .last .1 .1 .1 .1 .1 .0) (f .fill-rows .ensures .0) (bu .build .last .1 .1 .1 .1 .1 .1 .0) (nc .new-costs .last .1 .1 .1 .1 .1 .1 .0) (nc .new-costs .last .1 .1 .1 .1 .1 .1 .1 .0) (pa .partners .last .1 .1 .1 .1 .0) (subst (λ (n : ℕ). Built (n - 1) (sr .spare-ranks .result) (a .cost .now) (a .ts .now) (sr .spare-ranks .last .1 .1 .1 .0) (f .fill-rows .last .1 .1 .1 .1 .1 .0) (bu .build .last .1 .1 .1 .1 .1 .1 .0)) pn (bu .build .ensures)) (subst (λ (n : ℕ). Costed (n - 1) (sr .spare-ranks .result) (a .cost .now) (a .ts .now) (sr .spare-ranks .last .1 .1 .1 .0) (f .fill-rows .last .1 .1 .1 .1 .1 .0) (bu .build .last .1 .1 .1 .1 .1 .1 .0) (nc .new-costs .last .1 .1 .1 .1 .1 .1 .0) (nc .new-costs .last .1 .1 .1 .1 .1 .1 .1 .0)) pn (nc .new-costs .ensures)) (pa .partners .ensures .0), (v .tree-places, v .spare-places)))
+    (omega (arith, v .edges-are, v .accepted .edge-limit), (few-pairs j (a .end1 .now) (a .end2 .now) (a .cost .now) (a .mark .now) (a .ts .now) (a .mask .now) hj aj (a .edges) (sr .spare-ranks .result) (sr .spare-ranks .last .1 .1 .1 .0) pm (sr .spare-ranks .ensures .0) (sr .spare-ranks .ensures .1 .0) (f .fill-rows .last .1 .1 .1 .1 .1 .0) (f .fill-rows .ensures .0) (bu .build .last .1 .1 .1 .1 .1 .1 .0) (bu .build .last .1 .1 .1 .1 .1 .1 .1 .0) (nc .new-costs .last .1 .1 .1 .1 .1 .1 .1 .0) (nc .new-costs .last .1 .1 .1 .1 .1 .1 .1 .1 .0) (pa .partners .last .1 .1 .1 .1 .0) (subst (λ (n : ℕ). Built (n - 1) (sr .spare-ranks .result) (a .cost .now) (a .ts .now) (sr .spare-ranks .last .1 .1 .1 .0) (f .fill-rows .last .1 .1 .1 .1 .1 .0) (bu .build .last .1 .1 .1 .1 .1 .1 .0) (bu .build .last .1 .1 .1 .1 .1 .1 .1 .0)) pn (bu .build .ensures)) (subst (λ (n : ℕ). Costed (n - 1) (sr .spare-ranks .result) (a .cost .now) (a .ts .now) (sr .spare-ranks .last .1 .1 .1 .0) (f .fill-rows .last .1 .1 .1 .1 .1 .0) (bu .build .last .1 .1 .1 .1 .1 .1 .0) (nc .new-costs .last .1 .1 .1 .1 .1 .1 .1 .0) (nc .new-costs .last .1 .1 .1 .1 .1 .1 .1 .1 .0)) pn (nc .new-costs .ensures)) (pa .partners .ensures .0), (v .tree-places, v .spare-places)))
 
-cast-t24 : tie.Need-cast-t24
-cast-t24 c =
+cast-t25 : tie.Need-cast-t25
+cast-t25 c =
     let t = c .before .before .before .before in
     let pa = t .before .before in
     let nc = pa .before .before .before .before in
-    let bu = nc .before .before .before .before .before in
-    let f = bu .before .before .before .before in
+    let bu = nc .before .before .before .before .before .before in
+    let f = bu .before .before .before .before .before in
     let sr = f .before .before .before in
     let st = sr .before .before in
     let a = st .args in
@@ -137,21 +141,21 @@ cast-t24 c =
     let aj = v .accepted in
     let pm = v .edges-are in
     let pn = v .nodes-are in
-    omega (arith, t .steps .ensures, small-steps j (a .end1 .now) (a .end2 .now) (a .cost .now) (a .mark .now) (a .ts .now) (a .mask .now) hj aj (a .edges) (sr .spare-ranks .result) (sr .spare-ranks .last .1 .1 .1 .0) pm (sr .spare-ranks .ensures .0) (sr .spare-ranks .ensures .1 .0) (f .fill-rows .last .1 .1 .1 .1 .1 .0) (f .fill-rows .ensures .0) (bu .build .last .1 .1 .1 .1 .1 .1 .0) (nc .new-costs .last .1 .1 .1 .1 .1 .1 .0) (nc .new-costs .last .1 .1 .1 .1 .1 .1 .1 .0) (pa .partners .last .1 .1 .1 .1 .0) (subst (λ (n : ℕ). Built (n - 1) (sr .spare-ranks .result) (a .cost .now) (a .ts .now) (sr .spare-ranks .last .1 .1 .1 .0) (f .fill-rows .last .1 .1 .1 .1 .1 .0) (bu .build .last .1 .1 .1 .1 .1 .1 .0)) pn (bu .build .ensures)) (subst (λ (n : ℕ). Costed (n - 1) (sr .spare-ranks .result) (a .cost .now) (a .ts .now) (sr .spare-ranks .last .1 .1 .1 .0) (f .fill-rows .last .1 .1 .1 .1 .1 .0) (bu .build .last .1 .1 .1 .1 .1 .1 .0) (nc .new-costs .last .1 .1 .1 .1 .1 .1 .0) (nc .new-costs .last .1 .1 .1 .1 .1 .1 .1 .0)) pn (nc .new-costs .ensures)) (pa .partners .ensures .0))
+    omega (arith, t .steps .ensures, small-steps j (a .end1 .now) (a .end2 .now) (a .cost .now) (a .mark .now) (a .ts .now) (a .mask .now) hj aj (a .edges) (sr .spare-ranks .result) (sr .spare-ranks .last .1 .1 .1 .0) pm (sr .spare-ranks .ensures .0) (sr .spare-ranks .ensures .1 .0) (f .fill-rows .last .1 .1 .1 .1 .1 .0) (f .fill-rows .ensures .0) (bu .build .last .1 .1 .1 .1 .1 .1 .0) (bu .build .last .1 .1 .1 .1 .1 .1 .1 .0) (nc .new-costs .last .1 .1 .1 .1 .1 .1 .1 .0) (nc .new-costs .last .1 .1 .1 .1 .1 .1 .1 .1 .0) (pa .partners .last .1 .1 .1 .1 .0) (subst (λ (n : ℕ). Built (n - 1) (sr .spare-ranks .result) (a .cost .now) (a .ts .now) (sr .spare-ranks .last .1 .1 .1 .0) (f .fill-rows .last .1 .1 .1 .1 .1 .0) (bu .build .last .1 .1 .1 .1 .1 .1 .0) (bu .build .last .1 .1 .1 .1 .1 .1 .1 .0)) pn (bu .build .ensures)) (subst (λ (n : ℕ). Costed (n - 1) (sr .spare-ranks .result) (a .cost .now) (a .ts .now) (sr .spare-ranks .last .1 .1 .1 .0) (f .fill-rows .last .1 .1 .1 .1 .1 .0) (bu .build .last .1 .1 .1 .1 .1 .1 .0) (nc .new-costs .last .1 .1 .1 .1 .1 .1 .1 .0) (nc .new-costs .last .1 .1 .1 .1 .1 .1 .1 .1 .0)) pn (nc .new-costs .ensures)) (pa .partners .ensures .0))
 
 returns : tie.Need-returns
 returns c =
     let t = c .before .before .before .before in
     let pa = t .before .before in
     let nc = pa .before .before .before .before in
-    let bu = nc .before .before .before .before .before in
-    let f = bu .before .before .before .before in
+    let bu = nc .before .before .before .before .before .before in
+    let f = bu .before .before .before .before .before in
     let sr = f .before .before .before in
     let st = sr .before .before in
     let a = st .args in
     record {
-      few = (let v = st .pre in let j = v .job in let hj = v .held in let aj = v .accepted in let pm = v .edges-are in let pn = v .nodes-are in omega (arith, c .list-pairs .ensures .count, few-pairs j (a .end1 .now) (a .end2 .now) (a .cost .now) (a .mark .now) (a .ts .now) (a .mask .now) hj aj (a .edges) (sr .spare-ranks .result) (sr .spare-ranks .last .1 .1 .1 .0) pm (sr .spare-ranks .ensures .0) (sr .spare-ranks .ensures .1 .0) (f .fill-rows .last .1 .1 .1 .1 .1 .0) (f .fill-rows .ensures .0) (bu .build .last .1 .1 .1 .1 .1 .1 .0) (nc .new-costs .last .1 .1 .1 .1 .1 .1 .0) (nc .new-costs .last .1 .1 .1 .1 .1 .1 .1 .0) (pa .partners .last .1 .1 .1 .1 .0) (subst (λ (n : ℕ). Built (n - 1) (sr .spare-ranks .result) (a .cost .now) (a .ts .now) (sr .spare-ranks .last .1 .1 .1 .0) (f .fill-rows .last .1 .1 .1 .1 .1 .0) (bu .build .last .1 .1 .1 .1 .1 .1 .0)) pn (bu .build .ensures)) (subst (λ (n : ℕ). Costed (n - 1) (sr .spare-ranks .result) (a .cost .now) (a .ts .now) (sr .spare-ranks .last .1 .1 .1 .0) (f .fill-rows .last .1 .1 .1 .1 .1 .0) (bu .build .last .1 .1 .1 .1 .1 .1 .0) (nc .new-costs .last .1 .1 .1 .1 .1 .1 .0) (nc .new-costs .last .1 .1 .1 .1 .1 .1 .1 .0)) pn (nc .new-costs .ensures)) (pa .partners .ensures .0)));
-      answer = λ j hj aj pn pm. answer-is j (a .end1 .now) (a .end2 .now) (a .cost .now) (a .mark .now) (a .ts .now) (a .mask .now) hj aj (a .edges) (sr .spare-ranks .result) (sr .spare-ranks .last .1 .1 .1 .0) pm (sr .spare-ranks .ensures .0) (sr .spare-ranks .ensures .1 .0) (f .fill-rows .last .1 .1 .1 .1 .1 .0) (f .fill-rows .ensures .0) (bu .build .last .1 .1 .1 .1 .1 .1 .0) (nc .new-costs .last .1 .1 .1 .1 .1 .1 .0) (nc .new-costs .last .1 .1 .1 .1 .1 .1 .1 .0) (pa .partners .last .1 .1 .1 .1 .0) (subst (λ (n : ℕ). Built (n - 1) (sr .spare-ranks .result) (a .cost .now) (a .ts .now) (sr .spare-ranks .last .1 .1 .1 .0) (f .fill-rows .last .1 .1 .1 .1 .1 .0) (bu .build .last .1 .1 .1 .1 .1 .1 .0)) pn (bu .build .ensures)) (subst (λ (n : ℕ). Costed (n - 1) (sr .spare-ranks .result) (a .cost .now) (a .ts .now) (sr .spare-ranks .last .1 .1 .1 .0) (f .fill-rows .last .1 .1 .1 .1 .1 .0) (bu .build .last .1 .1 .1 .1 .1 .1 .0) (nc .new-costs .last .1 .1 .1 .1 .1 .1 .0) (nc .new-costs .last .1 .1 .1 .1 .1 .1 .1 .0)) pn (nc .new-costs .ensures)) (pa .partners .ensures .0) (t .steps .result) (c .list-pairs .result) (c .list-pairs .last .1 .1 .0) (c .list-pairs .last .1 .1 .1 .0) (t .steps .ensures) (c .list-pairs .ensures);
+      few = (let v = st .pre in let j = v .job in let hj = v .held in let aj = v .accepted in let pm = v .edges-are in let pn = v .nodes-are in omega (arith, c .list-pairs .ensures .count, few-pairs j (a .end1 .now) (a .end2 .now) (a .cost .now) (a .mark .now) (a .ts .now) (a .mask .now) hj aj (a .edges) (sr .spare-ranks .result) (sr .spare-ranks .last .1 .1 .1 .0) pm (sr .spare-ranks .ensures .0) (sr .spare-ranks .ensures .1 .0) (f .fill-rows .last .1 .1 .1 .1 .1 .0) (f .fill-rows .ensures .0) (bu .build .last .1 .1 .1 .1 .1 .1 .0) (bu .build .last .1 .1 .1 .1 .1 .1 .1 .0) (nc .new-costs .last .1 .1 .1 .1 .1 .1 .1 .0) (nc .new-costs .last .1 .1 .1 .1 .1 .1 .1 .1 .0) (pa .partners .last .1 .1 .1 .1 .0) (subst (λ (n : ℕ). Built (n - 1) (sr .spare-ranks .result) (a .cost .now) (a .ts .now) (sr .spare-ranks .last .1 .1 .1 .0) (f .fill-rows .last .1 .1 .1 .1 .1 .0) (bu .build .last .1 .1 .1 .1 .1 .1 .0) (bu .build .last .1 .1 .1 .1 .1 .1 .1 .0)) pn (bu .build .ensures)) (subst (λ (n : ℕ). Costed (n - 1) (sr .spare-ranks .result) (a .cost .now) (a .ts .now) (sr .spare-ranks .last .1 .1 .1 .0) (f .fill-rows .last .1 .1 .1 .1 .1 .0) (bu .build .last .1 .1 .1 .1 .1 .1 .0) (nc .new-costs .last .1 .1 .1 .1 .1 .1 .1 .0) (nc .new-costs .last .1 .1 .1 .1 .1 .1 .1 .1 .0)) pn (nc .new-costs .ensures)) (pa .partners .ensures .0)));
+      answer = λ j hj aj pn pm. answer-is j (a .end1 .now) (a .end2 .now) (a .cost .now) (a .mark .now) (a .ts .now) (a .mask .now) hj aj (a .edges) (sr .spare-ranks .result) (sr .spare-ranks .last .1 .1 .1 .0) pm (sr .spare-ranks .ensures .0) (sr .spare-ranks .ensures .1 .0) (f .fill-rows .last .1 .1 .1 .1 .1 .0) (f .fill-rows .ensures .0) (bu .build .last .1 .1 .1 .1 .1 .1 .0) (bu .build .last .1 .1 .1 .1 .1 .1 .1 .0) (nc .new-costs .last .1 .1 .1 .1 .1 .1 .1 .0) (nc .new-costs .last .1 .1 .1 .1 .1 .1 .1 .1 .0) (pa .partners .last .1 .1 .1 .1 .0) (subst (λ (n : ℕ). Built (n - 1) (sr .spare-ranks .result) (a .cost .now) (a .ts .now) (sr .spare-ranks .last .1 .1 .1 .0) (f .fill-rows .last .1 .1 .1 .1 .1 .0) (bu .build .last .1 .1 .1 .1 .1 .1 .0) (bu .build .last .1 .1 .1 .1 .1 .1 .1 .0)) pn (bu .build .ensures)) (subst (λ (n : ℕ). Costed (n - 1) (sr .spare-ranks .result) (a .cost .now) (a .ts .now) (sr .spare-ranks .last .1 .1 .1 .0) (f .fill-rows .last .1 .1 .1 .1 .1 .0) (bu .build .last .1 .1 .1 .1 .1 .1 .0) (nc .new-costs .last .1 .1 .1 .1 .1 .1 .1 .0) (nc .new-costs .last .1 .1 .1 .1 .1 .1 .1 .1 .0)) pn (nc .new-costs .ensures)) (pa .partners .ensures .0) (t .steps .result) (c .list-pairs .result) (c .list-pairs .last .1 .1 .0) (c .list-pairs .last .1 .1 .1 .0) (t .steps .ensures) (c .list-pairs .ensures);
     }
 
 pub solve-spec : {M : Type 1} → statement M
@@ -167,5 +171,5 @@ solve-spec =
     partners-requires
     steps-requires
     list-pairs-requires
-    cast-t24
+    cast-t25
     returns)
