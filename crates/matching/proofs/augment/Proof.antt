@@ -1,5 +1,6 @@
 -- `matching::augment` meets its contract. Assumes nothing.
 use borrow.Author.Needs.{needs}
+use native.Mathlib.Omega.{arith}
 use mathlib.Core.Path.{sym, _∙_}
 use Rattle.matching.specs.AugmentSteps.{second-ready, augmented-on, augmented-off, gain-within}
 use Rattle.matching.proofs.augment.Statement.{statement}
@@ -28,7 +29,7 @@ insert-requires : tie.Need-insert-requires
 insert-requires c κs =
     let e = c .before .before .before .before .before .before .before .before .before .before .before .before .before .before .before .before .before .before .before .before in
     let a = e .args in (
-      gain-within (a .t .0) (c .before .before .before .before .before .before .before .before .before .lowest-fresh .result) (a .spares) (a .cost .now) (a .ts .now) (a .ss .now) (e .pre .few) (sym (c .before .before .before .before .before .before .before .before .gains .ensures) ∙ c .before .before .before .before .before .before .before .if1 .taken),
+      omega (arith, gain-within (a .t .0) (c .before .before .before .before .before .before .before .before .before .lowest-fresh .result) (a .spares) (a .cost .now) (a .ts .now) (a .ss .now) (e .pre .few) (sym (c .before .before .before .before .before .before .before .before .gains .ensures) ∙ c .before .before .before .before .before .before .before .if1 .taken)),
       e .pre .taken-length,
     )
 

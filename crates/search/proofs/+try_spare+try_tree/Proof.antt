@@ -352,7 +352,7 @@ try-tree-with-requires : (t : ℕ) → try-tree-lts.Need-with-requires (
   try-spare-below t,
   try-spare.Post,
 ) (try-tree-at t) try-tree.Post try-tree-Inv-loop try-tree-μ-loop
-try-tree-with-requires t c κs = c .before .before .before .pre .1 .rank
+try-tree-with-requires t c κs = omega (arith, c .before .before .before .pre .1 .rank)
 
 try-tree-add-free-requires : (t : ℕ) → try-tree-lts.Need-add-free-requires (
   goal-covers-reads.Asked,
