@@ -9,11 +9,11 @@ use mathlib.Core.Bool.{Bool, true, false, cond, not, _&&_, _||_}
 use lib.Dec.{ltb, eqb}
 use borrow.Author.Tests.{ltb-true, lt-ltb, eqb-true}
 use Rattle.loops.specs.Loop.{scan, put}
-use Rattle.loops.specs.TestLaws.{truth, clash, and-first, and-second, and-miss, or-either, cond-both, choose-both}
+use Rattle.loops.specs.TestLaws.{truth, clash, and-first, and-second, and-miss, cond-both, choose-both}
 use Rattle.loops.specs.PutLaws.{put-same, put-other, put-back, put-split, put-kept}
 use Rattle.graph.specs.Graph.{count}
 use Rattle.graph.specs.CountLaws.{count-put, count-below, count-within}
-use Rattle.optimum.specs.Search.{Problem, Mates, Search, seeTree, seeSpare, seeFree, match, reachGoal, follow, trySpare, tryTree, search}
+use Rattle.optimum.specs.Search.{Problem, Mates, Search, seeTree, seeSpare, seeFree, match, follow, trySpare, tryTree, search}
 
 -- An alternating path from tree rank t to the goal, in the matching m, which it turns into m′; base is the matching at
 -- the start of the search.
