@@ -5,8 +5,8 @@ use native.Mathlib.Nat.{sub-zero, zero-sub, suc-sub-suc, min-zero, zero-min, suc
 use native.Mathlib.Omega.{arith}
 use mathlib.Core.Path.{_≡_, refl, sym, ap, _∙_}
 use mathlib.Core.Bool.{true, false, _&&_}
-use mathlib.Core.List.{List, [], _∷_, map}
-use lib.ListN.{length, getD, set, replicate, length-replicate, getD-replicate, length-map, List·getD-map}
+use mathlib.Core.List.{List, [], _∷_}
+use lib.ListN.{length, getD, set, replicate, length-replicate, getD-replicate}
 use lib.Dec.{leb}
 use borrow.Author.Tests.{le-leb, lt-leb}
 use Rattle.loops.specs.Loop.{allBelow}
@@ -60,14 +60,7 @@ firsts-at (suc n) [] e l = rw (sub-zero (suc n)) (getD-replicate (suc n) e zeroL
 firsts-at (suc n) (y ∷ ys) zero l = refl
 firsts-at (suc n) (y ∷ ys) (suc e) l = rw (suc-sub-suc n (length ys)) (firsts-at n ys e (omega arith))
 
--- One number of each link of the copy.
-pub column-length : (f : Link → ℕ) (n : ℕ) (ys : List Link) → length (map f (firsts n ys)) ≡ n
-column-length f n ys = length-map (firsts n ys) f ∙ firsts-length n ys
-
-pub column-at : (f : Link → ℕ) → f zeroLink ≡ 0 → (n : ℕ) (ys : List Link) (e : ℕ) → e < n → getD (map f (firsts n ys)) e 0 ≡ f (getD ys e zeroLink)
-column-at f z n ys e l = ap (getD (map f (firsts n ys)) e) (sym z) ∙ List·getD-map f (firsts n ys) e zeroLink ∙ ap f (firsts-at n ys e l)
-
--- One number of each link, put into a list of numbers: none yet, one more, and all.
+-- One number of each of the first links, put into a list of numbers: none yet, one more, and what it then holds.
 pub filled-none : (f : Link → ℕ) (ys : List Link) (old : List ℕ) → old ≡ filled f 0 ys old
 unfolding filled
 filled-none f ys old = refl
@@ -80,24 +73,35 @@ more-filled f i (y ∷ ys) [] l k = absurd (omega arith)
 more-filled f zero (y ∷ ys) (x ∷ old) l k = refl
 more-filled f (suc i) (y ∷ ys) (x ∷ old) l k = ap {B = List ℕ} (λ r. f y ∷ r) (more-filled f i ys old (omega arith) (omega arith))
 
-all-filled : (f : Link → ℕ) (n : ℕ) (ys : List Link) (old : List ℕ) → length ys ≡ n → length old ≡ n → filled f n ys old ≡ map f ys
+pub filled-more :
+    (f : Link → ℕ) (n i : ℕ) (ys : List Link) (old now : List ℕ) → length ys ≡ n → length old ≡ n → now ≡ filled f i ys old → i < n → set now i (f (getD ys i zeroLink)) ≡ filled f (i + 1) ys old
+filled-more f n i ys old now l k so h =
+    ap (λ (r : List ℕ). set r i (f (getD ys i zeroLink))) so ∙
+    more-filled f i ys old (omega (arith, l)) (omega (arith, k)) ∙
+    ap (λ (j : ℕ). filled f j ys old) (sym (one-more i))
+
+pub filled-length : (f : Link → ℕ) (n : ℕ) (ys : List Link) (old : List ℕ) → n ≤ length ys → n ≤ length old → length (filled f n ys old) ≡ length old
 unfolding filled
-all-filled f zero [] [] l k = refl
-all-filled f zero [] (x ∷ old) l k = absurd (omega (arith, k))
-all-filled f zero (y ∷ ys) old l k = absurd (omega (arith, l))
-all-filled f (suc n) [] old l k = absurd (omega (arith, l))
-all-filled f (suc n) (y ∷ ys) [] l k = absurd (omega (arith, k))
-all-filled f (suc n) (y ∷ ys) (x ∷ old) l k = ap {B = List ℕ} (λ r. f y ∷ r) (all-filled f n ys old (omega (arith, l)) (omega (arith, k)))
+filled-length f zero ys old l k = refl
+filled-length f (suc n) [] old l k = absurd (omega arith)
+filled-length f (suc n) (y ∷ ys) [] l k = absurd (omega arith)
+filled-length f (suc n) (y ∷ ys) (x ∷ old) l k = ap suc (filled-length f n ys old (omega arith) (omega arith))
 
-module _ (f : Link → ℕ) (n i : ℕ) (ys : List Link) (old now : List ℕ) (l : length ys ≡ n) (k : length old ≡ n) (so : now ≡ filled f i ys old) where
-  pub filled-more : i < n → set now i (f (getD ys i zeroLink)) ≡ filled f (i + 1) ys old
-  filled-more h =
-      ap (λ (r : List ℕ). set r i (f (getD ys i zeroLink))) so ∙
-      more-filled f i ys old (omega (arith, l)) (omega (arith, k)) ∙
-      ap (λ (j : ℕ). filled f j ys old) (sym (one-more i))
+pub filled-at : (f : Link → ℕ) (n : ℕ) (ys : List Link) (old : List ℕ) (e : ℕ) → n ≤ length ys → n ≤ length old → e < n → getD (filled f n ys old) e 0 ≡ f (getD ys e zeroLink)
+unfolding filled
+filled-at f zero ys old e l k h = absurd (omega arith)
+filled-at f (suc n) [] old e l k h = absurd (omega arith)
+filled-at f (suc n) (y ∷ ys) [] e l k h = absurd (omega arith)
+filled-at f (suc n) (y ∷ ys) (x ∷ old) zero l k h = refl
+filled-at f (suc n) (y ∷ ys) (x ∷ old) (suc e) l k h = filled-at f n ys old e (omega arith) (omega arith) (omega arith)
 
-  pub filled-all : i ≡ n → now ≡ map f ys
-  filled-all h = so ∙ ap (λ (j : ℕ). filled f j ys old) h ∙ all-filled f n ys old l k
+pub filled-past : (f : Link → ℕ) (n : ℕ) (ys : List Link) (old : List ℕ) (e : ℕ) → n ≤ length ys → n ≤ length old → n ≤ e → getD (filled f n ys old) e 0 ≡ getD old e 0
+unfolding filled
+filled-past f zero ys old e l k h = refl
+filled-past f (suc n) [] old e l k h = absurd (omega arith)
+filled-past f (suc n) (y ∷ ys) [] e l k h = absurd (omega arith)
+filled-past f (suc n) (y ∷ ys) (x ∷ old) zero l k h = absurd (omega arith)
+filled-past f (suc n) (y ∷ ys) (x ∷ old) (suc e) l k h = filled-past f n ys old e (omega arith) (omega arith) (omega arith)
 
 -- No link tested, and one more.
 pub small-none : (ys : List Link) → true ≡ smallTo 0 ys

@@ -3,9 +3,8 @@
 ghost use mathlib.Core.Path.{_≡_};
 ghost use Prim.Native.Nat.{min};
 ghost use mathlib.Core.Bool.{_&&_};
-ghost use mathlib.Core.List.{map};
 ghost use lib.ListN.{length};
-ghost use Rattle.records.specs.Records.{firsts, smallLink, allSmall};
+ghost use Rattle.records.specs.Records.{firsts, filled, smallLink, allSmall};
 
 #[repr(C)]
 pub struct Link {
@@ -84,8 +83,9 @@ pub fn load(list: &[Link]) -> [Link; 256]
     links
 }
 
-// Each number of the links into an array of its own.
+// Each number of the first so many links into an array of its own; the places behind them stay.
 pub fn spread(
+    count: usize,
     links: [Link; 256],
     end1: &mut [u32; 256],
     end2: &mut [u32; 256],
@@ -93,13 +93,14 @@ pub fn spread(
     mark: &mut [u32; 256],
 )
     requires { ⌜ (length (now end1) ≡ 256) × (length (now end2) ≡ 256) × (length (now cost) ≡ 256) × (length (now mark) ≡ 256) ⌝ }
-    ensures end1 { λ _. ⌜ now (end1 .exit) ≡ map (λ l. l .end1) links ⌝ }
-    ensures end2 { λ _. ⌜ now (end2 .exit) ≡ map (λ l. l .end2) links ⌝ }
-    ensures cost { λ _. ⌜ now (cost .exit) ≡ map (λ l. l .cost) links ⌝ }
-    ensures mark { λ _. ⌜ now (mark .exit) ≡ map (λ l. l .mark) links ⌝ }
+    ensures end1 { λ _. ⌜ now (end1 .exit) ≡ filled (λ l. l .end1) (min count 256) links (now (end1 .entry)) ⌝ }
+    ensures end2 { λ _. ⌜ now (end2 .exit) ≡ filled (λ l. l .end2) (min count 256) links (now (end2 .entry)) ⌝ }
+    ensures cost { λ _. ⌜ now (cost .exit) ≡ filled (λ l. l .cost) (min count 256) links (now (cost .entry)) ⌝ }
+    ensures mark { λ _. ⌜ now (mark .exit) ≡ filled (λ l. l .mark) (min count 256) links (now (mark .entry)) ⌝ }
 {
+    let n = held(count);
     let mut i: usize = 0;
-    while i < 256 {
+    while i < n {
         let l = links[i];
         end1[i] = l.end1;
         end2[i] = l.end2;

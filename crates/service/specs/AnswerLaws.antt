@@ -30,7 +30,7 @@ number-of zero bytes area =
     ]
 number-of (suc r) bytes area = inl refl
 
-number-zero : (r : ℕ) (bytes area : List ℕ) → written r bytes 0 area .refusal ≡ 0 → r ≡ 0
+pub number-zero : (r : ℕ) (bytes area : List ℕ) → written r bytes 0 area .refusal ≡ 0 → r ≡ 0
 number-zero zero bytes area z = refl
 number-zero (suc r) bytes area z = z
 

@@ -9,6 +9,9 @@ pub mod Parts
 pub mod PartLaws
 pub mod Lists
 pub mod ListLaws
+pub mod ListJobs
+pub mod ListJobLaws
+pub mod ListAcceptLaws
 pub mod Solving
 pub mod WidenLaws
 pub mod SolveLaws

@@ -4,11 +4,12 @@ ghost use Rattle.frame.specs.Questions.{jobOf};
 ghost use Rattle.service.specs.Accepting.{Empty, Held, acceptedHeader};
 use job::read::Header;
 
-fn refused6() -> Header
-    ensures { λ r. ⌜ r ≡ record { refusal = 6; nodes = 0; edges = 0 } ⌝ }
+// A refusal has no counts.
+pub fn refused(refusal: u32) -> Header
+    ensures { λ r. ⌜ r ≡ record { refusal = refusal; nodes = 0; edges = 0 } ⌝ }
 {
     Header {
-        refusal: 6,
+        refusal: refusal,
         nodes: 0,
         edges: 0,
     }
@@ -37,10 +38,10 @@ pub fn accept(
     let edges = header.edges as usize;
     let count = ranks::tree_ranks(edges, cost, mark, ts);
     if count + 1 != nodes as usize {
-        return refused6();
+        return refused(6);
     }
     if !tree::question6(nodes, ts, count, end1, end2, mask) {
-        return refused6();
+        return refused(6);
     }
     header
 }

@@ -1,10 +1,10 @@
-// The public face: services on job and answer frames. Those that take frames have no `requires`; `accept`, `solve` and the
-// writers of lists work on arrays, and say what they ask of them.
+// The public face: services on job and answer frames and on lists of links. Those that take arrays say what they ask of
+// them; the others have no `requires`.
 pub mod accept;
 pub mod find;
 pub mod judge;
+pub mod list;
 pub mod read;
 pub mod reply;
 pub mod solve;
 pub mod verdict;
-pub mod write;

@@ -1,27 +1,33 @@
 -- `records::spread` meets its contract. The loop's invariant: each array holds the number of the links passed, and behind
 -- them what it held.
 -- Assumes nothing.
-use Prim.Native.Nat.{_-_, _≤_}
-use mathlib.Core.Path.{_≡_}
+use Prim.Native.Nat.{ℕ, _-_, _≤_, min}
+use mathlib.Core.Path.{_≡_, ap, _∙_}
 use native.Mathlib.Omega.{arith}
+use mathlib.Core.List.{List}
 use lib.ListN.{length}
+use borrow.Author.Needs.{needs}
+use Rattle.records.specs.declared.Link.{Link}
 use Rattle.records.specs.Records.{filled}
-use Rattle.records.specs.RecordsLaws.{filled-none, filled-more, filled-all}
+use Rattle.records.specs.RecordsLaws.{filled-none, filled-more}
 use Rattle.records.proofs.spread.Statement.{statement}
 use Rattle.records.proofs.spread.Tie as tie
 
 abbrev Inv-loop : tie.InvT-loop
-Inv-loop end1₀ end2₀ cost₀ mark₀ links i₀ end1 end2 cost mark i =
-    (i ≤ 256) ×
+Inv-loop count end1₀ end2₀ cost₀ mark₀ links n i₀ end1 end2 cost mark i =
+    ((i ≤ n) × (n ≤ 256)) ×
     ((end1 ≡ filled (λ l. l .end1) i links end1₀) × (end2 ≡ filled (λ l. l .end2) i links end2₀) × (cost ≡ filled (λ l. l .cost) i links cost₀) × (mark ≡ filled (λ l. l .mark) i links mark₀))
 
 abbrev μ-loop : tie.MeasureT-loop
-μ-loop end1₀ end2₀ cost₀ mark₀ links i₀ end1 end2 cost mark i = 256 - i
+μ-loop count end1₀ end2₀ cost₀ mark₀ links n i₀ end1 end2 cost mark i = n - i
+
+held-requires : tie.Need-held-requires Inv-loop μ-loop
+held-requires c κs = search needs
 
 loop-holds : tie.Need-loop-holds Inv-loop μ-loop
 loop-holds c =
-    let a = c .args in
-    (omega arith, (filled-none (λ l. l .end1) (a .t1) (a .end1 .now), filled-none (λ l. l .end2) (a .t1) (a .end2 .now), filled-none (λ l. l .cost) (a .t1) (a .cost .now), filled-none (λ l. l .mark) (a .t1) (a .mark .now)))
+    let a = c .before .args in
+    ((omega arith, omega (arith, c .held .ensures)), (filled-none (λ l. l .end1) (a .t2) (a .end1 .now), filled-none (λ l. l .end2) (a .t2) (a .end2 .now), filled-none (λ l. l .cost) (a .t2) (a .cost .now), filled-none (λ l. l .mark) (a .t2) (a .mark .now)))
 
 mul-l : tie.Need-mul-l Inv-loop μ-loop
 mul-l c = omega arith
@@ -61,36 +67,30 @@ loop-less c = omega (arith, c .before .loop-test .taken)
 
 loop-again : tie.Need-loop-again Inv-loop μ-loop
 loop-again c =
-    let st = c .before .before .before in
+    let st = c .before .before .before .before in
     let a = st .args in
     let l = c .before .before .loop in
-    let g : length (a .t1) ≡ 256 = st .good .0 .1 .0 .1 in
+    let g : length (a .t2) ≡ 256 = st .good .1 .0 .1 .0 .1 in
     let h = c .before .loop-test .taken in (
-      omega arith,
+      (omega (arith, h), l .inv .0 .1),
       (
-        filled-more (λ r. r .end1) 256 (l .i) (a .t1) (a .end1 .now) (l .end1) g (st .pre .0) (l .inv .1 .0) h,
-        filled-more (λ r. r .end2) 256 (l .i) (a .t1) (a .end2 .now) (l .end2) g (st .pre .1) (l .inv .1 .1) h,
-        filled-more (λ r. r .cost) 256 (l .i) (a .t1) (a .cost .now) (l .cost) g (st .pre .2) (l .inv .1 .2) h,
-        filled-more (λ r. r .mark) 256 (l .i) (a .t1) (a .mark .now) (l .mark) g (st .pre .3) (l .inv .1 .3) h,
+        filled-more (λ r. r .end1) 256 (l .i) (a .t2) (a .end1 .now) (l .end1) g (st .pre .0) (l .inv .1 .0) (omega (arith, h, l .inv .0 .1)),
+        filled-more (λ r. r .end2) 256 (l .i) (a .t2) (a .end2 .now) (l .end2) g (st .pre .1) (l .inv .1 .1) (omega (arith, h, l .inv .0 .1)),
+        filled-more (λ r. r .cost) 256 (l .i) (a .t2) (a .cost .now) (l .cost) g (st .pre .2) (l .inv .1 .2) (omega (arith, h, l .inv .0 .1)),
+        filled-more (λ r. r .mark) 256 (l .i) (a .t2) (a .mark .now) (l .mark) g (st .pre .3) (l .inv .1 .3) (omega (arith, h, l .inv .0 .1)),
       ),
     )
 
+stop : (f : Link → ℕ) {i n : ℕ} (ys : List Link) (old now : List ℕ) → i ≡ n → now ≡ filled f i ys old → now ≡ filled f n ys old
+stop f ys old now e so = so ∙ ap (λ (j : ℕ). filled f j ys old) e
+
 returns : tie.Need-returns Inv-loop μ-loop
 returns c =
-    let st = c .before .before in
+    let st = c .before .before .before in
     let a = st .args in
     let l = c .before .loop in
-    let g : length (a .t1) ≡ 256 = st .good .0 .1 .0 .1 in
-    let all : l .i ≡ 256 = omega (arith, l .inv .0, c .loop-test .left) in (
-      filled-all (λ r. r .end1) 256 (l .i) (a .t1) (a .end1 .now) (l .end1) g (st .pre .0) (l .inv .1 .0) all,
-      (
-        filled-all (λ r. r .end2) 256 (l .i) (a .t1) (a .end2 .now) (l .end2) g (st .pre .1) (l .inv .1 .1) all,
-        (
-          filled-all (λ r. r .cost) 256 (l .i) (a .t1) (a .cost .now) (l .cost) g (st .pre .2) (l .inv .1 .2) all,
-          filled-all (λ r. r .mark) 256 (l .i) (a .t1) (a .mark .now) (l .mark) g (st .pre .3) (l .inv .1 .3) all,
-        ),
-      ),
-    )
+    let all : l .i ≡ min (a .count) 256 = omega (arith, l .inv .0 .0, c .loop-test .left, c .before .before .held .ensures) in
+    (stop (λ r. r .end1) (a .t2) _ _ all (l .inv .1 .0), (stop (λ r. r .end2) (a .t2) _ _ all (l .inv .1 .1), (stop (λ r. r .cost) (a .t2) _ _ all (l .inv .1 .2), stop (λ r. r .mark) (a .t2) _ _ all (l .inv .1 .3))))
 
 pub spread-spec : {M : Type 1} → statement M
 spread-spec =
@@ -98,6 +98,7 @@ spread-spec =
     (tie.spec
     Inv-loop
     μ-loop
+    held-requires
     loop-holds
     mul-l
     array-copy-out-l

@@ -75,8 +75,8 @@ add-if2 c =
 cast-if2 : tie.Need-cast-if2
 cast-if2 c = search needs
 
-refused6-requires : tie.Need-refused6-requires
-refused6-requires c κs = search needs
+refused-requires : tie.Need-refused-requires
+refused-requires c κs = search needs
 
 returns-2 : tie.Need-returns-2
 returns-2 c =
@@ -85,7 +85,7 @@ returns-2 c =
     let r = k .before in
     let a = r .before .before .before .before .before .before .args in
     let l = r .read-job .last .1 in
-    (c .refused6 .ensures ∙ tree-refused (a .frame .now) (r .read-job .result) (r .read-job .ensures .0) (bytes k) (k .if1 .left) (count-wrong (jobOf (a .frame .now)) (l .0) (l .1 .0) (l .1 .1 .0) (l .1 .1 .1 .0) (kept k) (r .read-job .result .nodes) (r .read-job .result .edges) (t .tree-ranks .result) (t .tree-ranks .last .1 .1 .1 .0) (header-nodes (a .frame .now) (r .read-job .result) (r .read-job .ensures .0) (bytes k) (k .if1 .left)) (header-edges (a .frame .now) (r .read-job .result) (r .read-job .ensures .0) (bytes k) (k .if1 .left)) (t .tree-ranks .ensures .0) (t .tree-ranks .ensures .1 .0) (t .tree-ranks .ensures .1 .1) (c .before .if2 .taken)), λ z. absurd (six-nonzero (c .refused6 .result) (c .refused6 .ensures) z))
+    (c .refused .ensures ∙ tree-refused (a .frame .now) (r .read-job .result) (r .read-job .ensures .0) (bytes k) (k .if1 .left) (count-wrong (jobOf (a .frame .now)) (l .0) (l .1 .0) (l .1 .1 .0) (l .1 .1 .1 .0) (kept k) (r .read-job .result .nodes) (r .read-job .result .edges) (t .tree-ranks .result) (t .tree-ranks .last .1 .1 .1 .0) (header-nodes (a .frame .now) (r .read-job .result) (r .read-job .ensures .0) (bytes k) (k .if1 .left)) (header-edges (a .frame .now) (r .read-job .result) (r .read-job .ensures .0) (bytes k) (k .if1 .left)) (t .tree-ranks .ensures .0) (t .tree-ranks .ensures .1 .0) (t .tree-ranks .ensures .1 .1) (c .before .if2 .taken)), λ z. absurd (six-nonzero (c .refused .result) (c .refused .ensures) z))
 
 question6-requires : tie.Need-question6-requires
 question6-requires c κs =
@@ -96,8 +96,8 @@ question6-requires c κs =
     let l = r .read-job .last .1 in
     tree-ranked (jobOf (a .frame .now)) (l .0) (l .1 .0) (l .1 .1 .0) (l .1 .1 .1 .0) (kept k) (r .read-job .result .nodes) (r .read-job .result .edges) (t .tree-ranks .result) (t .tree-ranks .last .1 .1 .1 .0) (header-nodes (a .frame .now) (r .read-job .result) (r .read-job .ensures .0) (bytes k) (k .if1 .left)) (header-edges (a .frame .now) (r .read-job .result) (r .read-job .ensures .0) (bytes k) (k .if1 .left)) (t .tree-ranks .ensures .0) (t .tree-ranks .ensures .1 .0) (t .tree-ranks .ensures .1 .1) (c .before .before .before .before .if2 .left)
 
-refused6-requires-2 : tie.Need-refused6-requires-2
-refused6-requires-2 c κs = search needs
+refused-requires-2 : tie.Need-refused-requires-2
+refused-requires-2 c κs = search needs
 
 returns-3 : tie.Need-returns-3
 returns-3 c =
@@ -107,7 +107,7 @@ returns-3 c =
     let r = k .before in
     let a = r .before .before .before .before .before .before .args in
     let l = r .read-job .last .1 in
-    (c .refused62 .ensures ∙ tree-refused (a .frame .now) (r .read-job .result) (r .read-job .ensures .0) (bytes k) (k .if1 .left) (sym (tree-answer (jobOf (a .frame .now)) (l .0) (l .1 .0) (l .1 .1 .0) (l .1 .1 .1 .0) (kept k) (r .read-job .result .nodes) (r .read-job .result .edges) (t .tree-ranks .result) (t .tree-ranks .last .1 .1 .1 .0) (header-nodes (a .frame .now) (r .read-job .result) (r .read-job .ensures .0) (bytes k) (k .if1 .left)) (header-edges (a .frame .now) (r .read-job .result) (r .read-job .ensures .0) (bytes k) (k .if1 .left)) (t .tree-ranks .ensures .0) (t .tree-ranks .ensures .1 .0) (t .tree-ranks .ensures .1 .1) (q .before .before .before .before .before .if2 .left) (q .question6 .result) (q .question6 .ensures .0)) ∙ not-true _ (c .before .if3 .taken)), λ z. absurd (six-nonzero (c .refused62 .result) (c .refused62 .ensures) z))
+    (c .refused2 .ensures ∙ tree-refused (a .frame .now) (r .read-job .result) (r .read-job .ensures .0) (bytes k) (k .if1 .left) (sym (tree-answer (jobOf (a .frame .now)) (l .0) (l .1 .0) (l .1 .1 .0) (l .1 .1 .1 .0) (kept k) (r .read-job .result .nodes) (r .read-job .result .edges) (t .tree-ranks .result) (t .tree-ranks .last .1 .1 .1 .0) (header-nodes (a .frame .now) (r .read-job .result) (r .read-job .ensures .0) (bytes k) (k .if1 .left)) (header-edges (a .frame .now) (r .read-job .result) (r .read-job .ensures .0) (bytes k) (k .if1 .left)) (t .tree-ranks .ensures .0) (t .tree-ranks .ensures .1 .0) (t .tree-ranks .ensures .1 .1) (q .before .before .before .before .before .if2 .left) (q .question6 .result) (q .question6 .ensures .0)) ∙ not-true _ (c .before .if3 .taken)), λ z. absurd (six-nonzero (c .refused2 .result) (c .refused2 .ensures) z))
 
 returns-4 : tie.Need-returns-4
 returns-4 c =
@@ -130,9 +130,9 @@ accept-spec =
     tree-ranks-requires
     add-if2
     cast-if2
-    refused6-requires
+    refused-requires
     returns-2
     question6-requires
-    refused6-requires-2
+    refused-requires-2
     returns-3
     returns-4)
