@@ -1,6 +1,6 @@
 -- Links lent as a list of records: the first ones with zeros behind the last, and whether every number is small.
 -- Definitions only. Assumes nothing.
-use Prim.Native.Nat.{ℕ, _-_}
+use Prim.Native.Nat.{ℕ, _-_, min}
 use mathlib.Core.Bool.{Bool, _&&_}
 use mathlib.Core.List.{List, _++_, map}
 use lib.ListN.{length, getD, take, drop, replicate}
@@ -27,9 +27,11 @@ filled f i ys old = take i (map f ys) ++ drop i old
 abbrev pub smallLink : Link → Bool
 smallLink l = leb (l .end1) 16383 && leb (l .end2) 16383 && leb (l .cost) 16383 && leb (l .mark) 16383
 
--- No number of the first n links of a list is, and none of all its links.
+-- No number of the first n links of a list is.
 abbrev pub smallTo : ℕ → List Link → Bool
 smallTo n ys = allBelow n λ e. smallLink (getD ys e zeroLink)
 
+-- No number of the first 16,384 links of a list is, or of all its links if it has fewer: a list longer than 16,383 is refused
+-- whatever it holds, so its links beyond are not looked at.
 abbrev pub allSmall : List Link → Bool
-allSmall ys = smallTo (length ys) ys
+allSmall ys = smallTo (min (length ys) 16384) ys

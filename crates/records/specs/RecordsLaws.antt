@@ -1,4 +1,4 @@
--- Laws of links lent as a list: what the copy holds, and one more link copied or tested.
+-- Laws of links lent as a list: what the copy holds, one more link copied or tested, and a list tested whole.
 -- Assumes nothing.
 use Prim.Native.Nat.{ℕ, zero, suc, _+_, _<_, _≤_, min}
 use native.Mathlib.Nat.{sub-zero, zero-sub, suc-sub-suc, min-zero, zero-min, suc-min-suc}
@@ -11,7 +11,7 @@ use lib.Dec.{leb}
 use borrow.Author.Tests.{le-leb, lt-leb}
 use Rattle.loops.specs.Loop.{allBelow}
 use Rattle.records.specs.declared.Link.{Link}
-use Rattle.records.specs.Records.{zeroLink, firsts, copied, filled, smallLink, smallTo}
+use Rattle.records.specs.Records.{zeroLink, firsts, copied, filled, smallLink, smallTo, allSmall}
 
 -- No link yet, one more, and as many as the list and the array allow.
 pub copied-none : (n : ℕ) (ys : List Link) → copied n 0 ys ≡ replicate n zeroLink
@@ -111,6 +111,10 @@ small-none ys = refl
 pub small-more : (i : ℕ) (ys : List Link) → smallTo (i + 1) ys ≡ (smallTo i ys && smallLink (getD ys i zeroLink))
 unfolding allBelow
 small-more i ys = rw (one-more i) refl
+
+-- A list that is not too long is tested whole.
+pub all-small-whole : (ys : List Link) → length ys ≤ 16383 → allSmall ys ≡ smallTo (length ys) ys
+all-small-whole ys h = ap (λ (k : ℕ). smallTo k ys) (omega arith)
 
 -- The test of one link, in the code's order.
 module _ (l : Link) where

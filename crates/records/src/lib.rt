@@ -40,11 +40,22 @@ fn still_small(sofar: bool, l: Link) -> bool
     false
 }
 
-// Every number of every link of the list is at most 16,383.
+// How many of n links are looked at, if at most so many are.
+fn at_most(n: usize, most: usize) -> usize
+    ensures { λ r. ⌜ r ≡ min n most ⌝ }
+{
+    if n < most {
+        return n;
+    }
+    most
+}
+
+// Every number of every link of the list is at most 16,383. A list longer than 16,383 is refused whatever it holds: of it
+// only the first 16,384 links are looked at.
 pub fn all_small(list: &[Link]) -> bool
     ensures { λ r. ⌜ r ≡ allSmall (now (list .entry)) ⌝ }
 {
-    let n = list.len();
+    let n = at_most(list.len(), 16384);
     let mut sofar = true;
     let mut i = 0;
     while i < n {
@@ -54,21 +65,11 @@ pub fn all_small(list: &[Link]) -> bool
     sofar
 }
 
-// How many of so many links the array holds.
-fn held(n: usize) -> usize
-    ensures { λ r. ⌜ r ≡ min n 256 ⌝ }
-{
-    if n < 256 {
-        return n;
-    }
-    256
-}
-
 // The first 256 links of the list, zeros behind the last.
 pub fn load(list: &[Link]) -> [Link; 256]
     ensures { λ r. ⌜ r ≡ firsts 256 (now (list .entry)) ⌝ }
 {
-    let n = held(list.len());
+    let n = at_most(list.len(), 256);
     let mut links = [Link {
         end1: 0,
         end2: 0,
