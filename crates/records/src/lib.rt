@@ -99,7 +99,7 @@ pub fn spread(
     ensures cost { λ _. ⌜ now (cost .exit) ≡ filled (λ l. l .cost) (min count 256) links (now (cost .entry)) ⌝ }
     ensures mark { λ _. ⌜ now (mark .exit) ≡ filled (λ l. l .mark) (min count 256) links (now (mark .entry)) ⌝ }
 {
-    let n = held(count);
+    let n = at_most(count, 256);
     let mut i: usize = 0;
     while i < n {
         let l = links[i];

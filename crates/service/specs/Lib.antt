@@ -17,6 +17,5 @@ pub mod WidenLaws
 pub mod SolveLaws
 pub mod Answering
 pub mod AnswerLaws
-pub mod ListJobs
 pub mod JobsRead
 pub mod JobReadLaws

@@ -5,7 +5,7 @@ use native.Mathlib.Decide.{decLe, decLt}
 use native.Mathlib.Omega.{arith}
 use mathlib.Core.Path.{_≡_, refl, sym, ap, subst, _∙_}
 use mathlib.Core.Logic.{⊎-elim}
-use mathlib.Core.Bool.{Bool, true, false, _&&_}
+use mathlib.Core.Bool.{Bool, true, false, _&&_, and-false}
 use mathlib.Core.List.{List, map}
 use lib.Dec.{leb}
 use lib.ListN.{length, getD, length-map, List·getD-map, List·getD-eq-default}
@@ -16,7 +16,7 @@ use Rattle.loops.specs.TestLaws.{truth, all-at, all-of, all-same}
 use Rattle.loops.specs.GatherLaws.{getD-tabulate}
 use Rattle.records.specs.declared.Link.{Link}
 use Rattle.records.specs.Records.{zeroLink, firsts, filled, smallLink, allSmall}
-use Rattle.records.specs.RecordsLaws.{firsts-at, filled-length, filled-at, filled-past}
+use Rattle.records.specs.RecordsLaws.{firsts-at, filled-length, filled-at, filled-past, all-small-whole}
 use Rattle.frame.specs.Job.{Edge, Job, noEdge, link, maxNodes, maxEdges, maxNumber}
 use Rattle.frame.specs.Services.{smallEdge, small, counted, listRefusal}
 use Rattle.job.specs.Reading.{rows}
@@ -32,23 +32,36 @@ use Rattle.service.specs.ListJobs.{edgeOf, listJob}
 abbrev linksTest : Job → Bool
 linksTest j = allBelow (length (j .links)) λ e. smallEdge (link j e)
 
-links-test : (nodes : ℕ) (ys : List Link) → linksTest (listJob nodes ys) ≡ allSmall ys
-links-test nodes ys =
+links-test : (nodes : ℕ) (ys : List Link) → length ys ≤ maxNumber → linksTest (listJob nodes ys) ≡ allSmall ys
+links-test nodes ys l =
     ap (λ (n : ℕ). allBelow n λ e. smallEdge (link (listJob nodes ys) e)) (length-map ys edgeOf) ∙
-    all-same (length ys) (λ e. smallEdge (link (listJob nodes ys) e)) (λ e. smallLink (getD ys e zeroLink)) (λ e l. ap smallEdge (List·getD-map edgeOf ys e zeroLink))
+    all-same (length ys) (λ e. smallEdge (link (listJob nodes ys) e)) (λ e. smallLink (getD ys e zeroLink)) (λ e l. ap smallEdge (List·getD-map edgeOf ys e zeroLink)) ∙
+    sym (all-small-whole ys l)
 
-and-none : (b : Bool) → (b && false) ≡ false
-and-none true = refl
-and-none false = refl
+and-middle : (a b : Bool) → (a && false && b) ≡ false
+and-middle true b = refl
+and-middle false b = refl
+
+-- A list that is too long is refused by question 1, whatever its links are.
+long-large : (j : Job) → maxNumber < length (j .links) → small j ≡ false
+unfolding small
+long-large j l = rw (lt-leb (length (j .links)) maxNumber l) (and-middle (leb (j .nodes) maxNumber) (linksTest j))
+
+long-refused : (i j : Job) → length (i .links) ≡ length (j .links) → maxNumber < length (j .links) → listRefusal i ≡ listRefusal j
+long-refused i j m l = rw (long-large i (omega (arith, m)), long-large j l)
 
 pub list-large : (nodes : ℕ) (ys : List Link) → allSmall ys ≡ false → small (listJob nodes ys) ≡ false
 unfolding small
-list-large nodes ys n = rw (links-test nodes ys ∙ n) (and-none (leb nodes maxNumber && leb (length (listJob nodes ys .links)) maxNumber))
+list-large nodes ys n =
+    elim (decLe (length ys) maxNumber) [
+      | yes l ↦ rw (links-test nodes ys l ∙ n) (and-false (leb nodes maxNumber && leb (length (listJob nodes ys .links)) maxNumber))
+      | no l ↦ long-large (listJob nodes ys) (omega (arith, length-map ys edgeOf))
+    ]
 
 -- More than 256 links are refused by question 1 or 2: which one, the counts say if all links are small.
 many-counted : (j : Job) → 256 < length (j .links) → counted j ≡ false
 unfolding counted
-many-counted j l = rw (lt-leb (length (j .links)) maxEdges l) (and-none (leb 1 (j .nodes) && leb (j .nodes) maxNodes))
+many-counted j l = rw (lt-leb (length (j .links)) maxEdges l) (and-false (leb 1 (j .nodes) && leb (j .nodes) maxNodes))
 
 small-same : (i j : Job) → i .nodes ≡ j .nodes → length (i .links) ≡ length (j .links) → linksTest i ≡ linksTest j → small i ≡ small j
 unfolding small
@@ -108,7 +121,7 @@ module _ (nodes : ℕ) (ys : List Link) (as₁ as₂ as₃ as₄ : List ℕ) (c 
     unfolding row
     link-small e k =
         elim (decLt e 256) [
-          | yes l ↦ ap smallEdge (link-is e l k) ∙ all-at (length ys) (λ e. smallLink (getD ys e zeroLink)) y e k
+          | yes l ↦ ap smallEdge (link-is e l k) ∙ all-at (min (length ys) 16384) (λ e. smallLink (getD ys e zeroLink)) y e (omega arith)
           | no l ↦ ap smallEdge (getD-tabulate row (length ys) e noEdge k ∙ past e (omega arith))
         ]
 
@@ -122,10 +135,15 @@ module _ (nodes : ℕ) (ys : List Link) (as₁ as₂ as₃ as₄ : List ℕ) (c 
     list-same =
         elim (decLe (length ys) 256) [
           | yes l ↦ ap listRefusal (few-same l)
-          | no l ↦ many-refused (jobAt nodes (length ys) as₁ as₂ as₃ as₄) (listJob nodes ys) refl
-              (rows-length (length ys) as₁ as₂ as₃ as₄ ∙ sym (length-map ys edgeOf))
-              (rows-small ∙ sym (links-test nodes ys ∙ y))
-              (omega (arith, length-map ys edgeOf))
+          | no l ↦ elim (decLe (length ys) maxNumber) [
+            | yes m ↦ many-refused (jobAt nodes (length ys) as₁ as₂ as₃ as₄) (listJob nodes ys) refl
+                (rows-length (length ys) as₁ as₂ as₃ as₄ ∙ sym (length-map ys edgeOf))
+                (rows-small ∙ sym (links-test nodes ys m ∙ y))
+                (omega (arith, length-map ys edgeOf))
+            | no m ↦ long-refused (jobAt nodes (length ys) as₁ as₂ as₃ as₄) (listJob nodes ys)
+                (rows-length (length ys) as₁ as₂ as₃ as₄ ∙ sym (length-map ys edgeOf))
+                (omega (arith, length-map ys edgeOf))
+          ]
         ]
 
 -- The same, by a count that is the list's length.

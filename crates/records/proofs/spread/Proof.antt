@@ -21,13 +21,13 @@ Inv-loop count end1₀ end2₀ cost₀ mark₀ links n i₀ end1 end2 cost mark 
 abbrev μ-loop : tie.MeasureT-loop
 μ-loop count end1₀ end2₀ cost₀ mark₀ links n i₀ end1 end2 cost mark i = n - i
 
-held-requires : tie.Need-held-requires Inv-loop μ-loop
-held-requires c κs = search needs
+at-most-requires : tie.Need-at-most-requires Inv-loop μ-loop
+at-most-requires c κs = search needs
 
 loop-holds : tie.Need-loop-holds Inv-loop μ-loop
 loop-holds c =
     let a = c .before .args in
-    ((omega arith, omega (arith, c .held .ensures)), (filled-none (λ l. l .end1) (a .t2) (a .end1 .now), filled-none (λ l. l .end2) (a .t2) (a .end2 .now), filled-none (λ l. l .cost) (a .t2) (a .cost .now), filled-none (λ l. l .mark) (a .t2) (a .mark .now)))
+    ((omega arith, omega (arith, c .at-most .ensures)), (filled-none (λ l. l .end1) (a .t2) (a .end1 .now), filled-none (λ l. l .end2) (a .t2) (a .end2 .now), filled-none (λ l. l .cost) (a .t2) (a .cost .now), filled-none (λ l. l .mark) (a .t2) (a .mark .now)))
 
 mul-l : tie.Need-mul-l Inv-loop μ-loop
 mul-l c = omega arith
@@ -89,7 +89,7 @@ returns c =
     let st = c .before .before .before in
     let a = st .args in
     let l = c .before .loop in
-    let all : l .i ≡ min (a .count) 256 = omega (arith, l .inv .0 .0, c .loop-test .left, c .before .before .held .ensures) in
+    let all : l .i ≡ min (a .count) 256 = omega (arith, l .inv .0 .0, c .loop-test .left, c .before .before .at-most .ensures) in
     (stop (λ r. r .end1) (a .t2) _ _ all (l .inv .1 .0), (stop (λ r. r .end2) (a .t2) _ _ all (l .inv .1 .1), (stop (λ r. r .cost) (a .t2) _ _ all (l .inv .1 .2), stop (λ r. r .mark) (a .t2) _ _ all (l .inv .1 .3))))
 
 pub spread-spec : {M : Type 1} → statement M
@@ -98,7 +98,7 @@ spread-spec =
     (tie.spec
     Inv-loop
     μ-loop
-    held-requires
+    at-most-requires
     loop-holds
     mul-l
     array-copy-out-l
