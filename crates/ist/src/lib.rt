@@ -1,5 +1,8 @@
-// The library's functions for C (include/ist.h): each calls one service and carries its promise.
+// The library's functions for C (include/ist.h): each calls one service and carries its promise. Those over a lent list of
+// records are in list.rt.
 ghost use mathlib.Core.Path.{_≡_};
+ghost use Prim.Native.Nat.{_≤_};
+ghost use lib.IntN.{pos};
 ghost use Rattle.service.specs.Answering.{Answered};
 ghost use Rattle.service.specs.Verdicts.{TreeJudged, AnswerJudged};
 ghost use Rattle.service.specs.Parts.{LinkLocated, CostLocated};
@@ -7,15 +10,23 @@ ghost use Rattle.ist.specs.Exports.{codeOf, Sayable, Said, Replied};
 use ids::Edge;
 use service::judge::Verdict;
 
+pub mod list;
+
+// A refusal's number as a result of C. Refusals are below 8; the remainder leaves them as they are.
+pub fn number(refusal: u32) -> i32
+    ensures { λ r. ⌜ (refusal ≤ 7 → r ≡ pos refusal) ⌝ }
+{
+    (refusal % 8) as i32
+}
+
 // A verdict as a number: 0 for yes, -1 for no, else the refusal.
-fn code(verdict: Verdict) -> i32
-    requires { ⌜ Sayable verdict ⌝ }
-    ensures { λ r. ⌜ r ≡ codeOf verdict ⌝ }
+pub fn code(verdict: Verdict) -> i32
+    ensures { λ r. ⌜ (Sayable verdict → r ≡ codeOf verdict) ⌝ }
 {
     match verdict {
         Verdict::Yes => 0,
         Verdict::No => -1,
-        Verdict::Refused(refusal) => refusal as i32,
+        Verdict::Refused(refusal) => number(refusal),
     }
 }
 
@@ -26,7 +37,7 @@ pub extern "C" fn ist_answer(job: &[u8], area: &mut [u8], written: &mut usize) -
 {
     let reply = service::reply::answer(job, area);
     *written = reply.length;
-    reply.refusal as i32
+    number(reply.refusal)
 }
 
 // Is the marked tree of a job frame cheapest?

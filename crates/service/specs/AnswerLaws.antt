@@ -22,7 +22,7 @@ use Rattle.job.specs.Writing.{outcome}
 use Rattle.service.specs.Answering.{Delivered, Answered}
 
 -- The number of what is written.
-number-of : (r : ℕ) (bytes area : List ℕ) → (written r bytes 0 area .refusal ≡ r) ⊎ ((r ≡ 0) × (written r bytes 0 area .refusal ≡ 7) × (length area < length bytes))
+pub number-of : (r : ℕ) (bytes area : List ℕ) → (written r bytes 0 area .refusal ≡ r) ⊎ ((r ≡ 0) × (written r bytes 0 area .refusal ≡ 7) × (length area < length bytes))
 number-of zero bytes area =
     elim (decLe (length bytes) (length area)) [
       | yes l ↦ inl (ap (λ (o : Outcome). o .refusal) (written-done bytes 0 area (omega arith)))

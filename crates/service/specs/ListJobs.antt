@@ -13,7 +13,10 @@ use Rattle.frame.specs.Meaning.{Accepted}
 use Rattle.job.specs.declared.read.Header.{Header}
 use Rattle.job.specs.declared.write.Reply.{Reply}
 use Rattle.job.specs.Writing.{outcome}
+use Rattle.service.specs.declared.judge.Verdict.{Verdict}
+use Rattle.service.specs.declared.judge.Verdict.the-variants.{Refused}
 use Rattle.service.specs.Accepting.{Held, acceptedHeader}
+use Rattle.service.specs.Answering.{Answered, Untouched}
 
 -- The job of a list of records.
 abbrev pub edgeOf : Link → Edge
@@ -47,3 +50,12 @@ pub record ListWritten (j : Job) (area : List ℕ) (r : Reply) (after : List ℕ
   pub said : small j ≡ true → outcome r after ≡ written (refusal (jobFrame j)) (jobFrame j) 0 area
   -- what was written is accepted and reads as the list
   pub reads : r .refusal ≡ 0 → (refusal (take (r .length) after) ≡ 0) × (jobOf (take (r .length) after) ≡ j)
+
+-- The answer to a list is that to its frame, and so is a judge's verdict; a list with a large number is refused by question 1.
+pub record ListAnswered (j : Job) (area : List ℕ) (r : Reply) (after : List ℕ) : Type 0 where
+  pub large : small j ≡ false → Untouched 1 area r after
+  pub said : small j ≡ true → Answered (jobFrame j) area r after
+
+pub record ListJudged (j : Job) (Judged : List ℕ → Verdict → Type 0) (r : Verdict) : Type 0 where
+  pub large : small j ≡ false → r ≡ Refused 1
+  pub said : small j ≡ true → Judged (jobFrame j) r

@@ -1,12 +1,18 @@
-// Lists of links: questions 1 to 6 put to them, an accepted one held in arrays, and its job frame written.
+// Services on lists of links. The list comes as its length, the word that its numbers are small and a copy of its first 256
+// links: so much a function over a lent list of records hands on.
 ghost use mathlib.Core.Path.{_≡_};
 ghost use lib.ListN.{length};
 ghost use Rattle.frame.specs.Services.{listRefusal};
 ghost use Rattle.job.specs.Writing.{jobAt};
 ghost use Rattle.service.specs.Accepting.{Empty, Held};
 ghost use Rattle.service.specs.Lists.{ListHeld};
-ghost use Rattle.service.specs.ListJobs.{Of, listJob, ListAccepted, SomeHeld, ListWritten};
+ghost use Rattle.service.specs.Verdicts.{TreeJudged, AnswerJudged};
+ghost use Rattle.service.specs.ListJobs.{Of, listJob, ListAccepted, SomeHeld, ListWritten, ListAnswered, ListJudged};
 use crate::accept::refused;
+use crate::judge::Verdict;
+use crate::judge::judge_held;
+use crate::reply::answer_held;
+use crate::verdict::judge_answer_held;
 use job::read::Header;
 use job::write::Reply;
 use records::Link;
@@ -116,4 +122,91 @@ pub fn write_links(
         area,
         0,
     )
+}
+
+// Is the marked tree of a list of records cheapest?
+pub fn judge_links(nodes: u32, count: usize, small: bool, links: [Link; 256]) -> Verdict
+    ensures { λ r. ⌜ Of count small links (λ ys. ListJudged (listJob nodes ys) TreeJudged r) ⌝ }
+{
+    let mut end1 = [0u32; 256];
+    let mut end2 = [0u32; 256];
+    let mut cost = [0u32; 256];
+    let mut mark = [0u32; 256];
+    let mut ts = [0u32; 256];
+    let mut mask = [0u64; 64];
+    let header = accept_links(
+        nodes,
+        count,
+        small,
+        links,
+        &mut end1,
+        &mut end2,
+        &mut cost,
+        &mut mark,
+        &mut ts,
+        &mut mask,
+    );
+    judge_held(header, &end1, &end2, &cost, &mark, &ts, &mask)
+}
+
+// Does a frame hold an answer to a list of records?
+pub fn judge_answer_links(
+    nodes: u32,
+    count: usize,
+    small: bool,
+    links: [Link; 256],
+    offered: &[u8],
+) -> Verdict
+    ensures { λ r. ⌜ Of count small links (λ ys. ListJudged (listJob nodes ys) (λ s. AnswerJudged s (now (offered .entry))) r) ⌝ }
+{
+    let mut end1 = [0u32; 256];
+    let mut end2 = [0u32; 256];
+    let mut cost = [0u32; 256];
+    let mut mark = [0u32; 256];
+    let mut ts = [0u32; 256];
+    let mut mask = [0u64; 64];
+    let header = accept_links(
+        nodes,
+        count,
+        small,
+        links,
+        &mut end1,
+        &mut end2,
+        &mut cost,
+        &mut mark,
+        &mut ts,
+        &mut mask,
+    );
+    judge_answer_held(header, &end1, &end2, &cost, &mark, &ts, &mask, offered)
+}
+
+// Writes the answer to a list of records into the area, or refuses it and writes nothing.
+pub fn answer_links(
+    nodes: u32,
+    count: usize,
+    small: bool,
+    links: [Link; 256],
+    area: &mut [u8],
+) -> Reply
+    ensures { λ r. ⌜ Of count small links (λ ys. ListAnswered (listJob nodes ys) (now (area .entry)) r (now (area .exit))) ⌝ }
+{
+    let mut end1 = [0u32; 256];
+    let mut end2 = [0u32; 256];
+    let mut cost = [0u32; 256];
+    let mut mark = [0u32; 256];
+    let mut ts = [0u32; 256];
+    let mut mask = [0u64; 64];
+    let header = accept_links(
+        nodes,
+        count,
+        small,
+        links,
+        &mut end1,
+        &mut end2,
+        &mut cost,
+        &mut mark,
+        &mut ts,
+        &mut mask,
+    );
+    answer_held(header, &end1, &end2, &cost, &mark, &ts, &mask, area)
 }

@@ -8,7 +8,7 @@ judge-requires : tie.Need-judge-requires
 judge-requires c κs = search needs
 
 code-requires : tie.Need-code-requires
-code-requires c κs = judged-sayable _ _ _ _ (c .judge .ensures)
+code-requires c κs = search needs
 
 returns : tie.Need-returns
 returns c =

@@ -8,7 +8,7 @@ judge-answer-requires : tie.Need-judge-answer-requires
 judge-answer-requires c κs = search needs
 
 code-requires : tie.Need-code-requires
-code-requires c κs = judged-sayable _ _ _ _ (c .judge-answer .ensures)
+code-requires c κs = search needs
 
 returns : tie.Need-returns
 returns c =

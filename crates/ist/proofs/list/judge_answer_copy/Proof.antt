@@ -1,0 +1,19 @@
+-- `ist::list::judge_answer_copy` meets its contract: the judge's verdict as a number. Assumes nothing.
+use Rattle.ist.specs.ExportLaws.{judged-sayable, code-told, list-sayable}
+use borrow.Author.Needs.{needs}
+use Rattle.ist.proofs.list.judge_answer_copy.Statement.{statement}
+use Rattle.ist.proofs.list.judge_answer_copy.Tie as tie
+
+judge-answer-links-requires : tie.Need-judge-answer-links-requires
+judge-answer-links-requires c κs = search needs
+
+code-requires : tie.Need-code-requires
+code-requires c κs = search needs
+
+returns : tie.Need-returns
+returns c = λ ys n small copy.
+    let judged = c .before .judge-answer-links .ensures ys n small copy in
+    record { verdict = c .before .judge-answer-links .result; number = code-told _ _ (list-sayable _ _ _ (λ k. judged-sayable _ _ _ _ k) judged) (c .code .ensures); judged = judged }
+
+pub judge-answer-copy-spec : {M : Type 1} → statement M
+judge-answer-copy-spec = tie.close (tie.spec judge-answer-links-requires code-requires returns)

@@ -1,0 +1,19 @@
+-- `ist::list::judge_copy` meets its contract: the judge's verdict as a number. Assumes nothing.
+use Rattle.ist.specs.ExportLaws.{judged-sayable, code-told, list-sayable}
+use borrow.Author.Needs.{needs}
+use Rattle.ist.proofs.list.judge_copy.Statement.{statement}
+use Rattle.ist.proofs.list.judge_copy.Tie as tie
+
+judge-links-requires : tie.Need-judge-links-requires
+judge-links-requires c κs = search needs
+
+code-requires : tie.Need-code-requires
+code-requires c κs = search needs
+
+returns : tie.Need-returns
+returns c = λ ys n small copy.
+    let judged = c .before .judge-links .ensures ys n small copy in
+    record { verdict = c .before .judge-links .result; number = code-told _ _ (list-sayable _ _ _ (λ k. judged-sayable _ _ _ _ k) judged) (c .code .ensures); judged = judged }
+
+pub judge-copy-spec : {M : Type 1} → statement M
+judge-copy-spec = tie.close (tie.spec judge-links-requires code-requires returns)

@@ -1,0 +1,24 @@
+-- `ist::list::write_copy` meets its contract: the reply's number and length. Assumes nothing.
+use mathlib.Core.Path.{refl}
+use Rattle.ist.specs.ExportLaws.{number-told, list-written-most}
+use borrow.Author.Needs.{needs}
+use Rattle.ist.proofs.list.write_copy.Statement.{statement}
+use Rattle.ist.proofs.list.write_copy.Tie as tie
+
+write-links-requires : tie.Need-write-links-requires
+write-links-requires c κs = search needs
+
+number-requires : tie.Need-number-requires
+number-requires c κs = search needs
+
+same-length : tie.Need-same-length
+same-length c = search needs
+
+returns : tie.Need-returns
+returns c = λ ys n small copy.
+    let w = c .before in
+    let told = w .before .before .write-links .ensures ys n small copy in
+    record { reply = w .before .before .write-links .result; number = number-told _ _ (list-written-most _ _ _ _ told) (c .number .ensures); length = refl; told = told }
+
+pub write-copy-spec : {M : Type 1} → statement M
+write-copy-spec = tie.close (tie.spec write-links-requires number-requires same-length returns)

@@ -1,0 +1,111 @@
+// The functions for C over a lent list of link records. The borrow checker does not cover such a list: each function over it
+// is proved by hand, and only hands the list's length, a test and a copy to the function above it.
+ghost use mathlib.Core.Path.{_≡_};
+ghost use Rattle.service.specs.Verdicts.{TreeJudged, AnswerJudged};
+ghost use Rattle.service.specs.ListJobs.{Of, listJob, ListWritten, ListAnswered, ListJudged};
+ghost use Rattle.ist.specs.Exports.{Said, Replied};
+use crate::code;
+use crate::number;
+use records::Link;
+
+fn judge_copy(stations: u32, count: usize, small: bool, links: [Link; 256]) -> i32
+    ensures { λ r. ⌜ Of count small links (λ ys. Said (ListJudged (listJob stations ys) TreeJudged) r) ⌝ }
+{
+    code(service::list::judge_links(stations, count, small, links))
+}
+
+// Is the marked tree of a list cheapest?
+#[no_mangle]
+pub extern "C" fn ist_judge_list(stations: u32, list: &[Link]) -> i32
+    ensures { λ r. ⌜ Said (ListJudged (listJob stations (now (list .entry))) TreeJudged) r ⌝ }
+{
+    let count = list.len();
+    let small = records::all_small(list);
+    let links = records::load(list);
+    judge_copy(stations, count, small, links)
+}
+
+fn judge_answer_copy(
+    stations: u32,
+    count: usize,
+    small: bool,
+    links: [Link; 256],
+    answer: &[u8],
+) -> i32
+    ensures { λ r. ⌜ Of count small links (λ ys. Said (ListJudged (listJob stations ys) (λ s. AnswerJudged s (now (answer .entry)))) r) ⌝ }
+{
+    code(service::list::judge_answer_links(stations, count, small, links, answer))
+}
+
+// Is a frame an answer to a list?
+#[no_mangle]
+pub extern "C" fn ist_judge_answer_list(stations: u32, list: &[Link], answer: &[u8]) -> i32
+    ensures { λ r. ⌜ Said (ListJudged (listJob stations (now (list .entry))) (λ s. AnswerJudged s (now (answer .entry)))) r ⌝ }
+{
+    let count = list.len();
+    let small = records::all_small(list);
+    let links = records::load(list);
+    judge_answer_copy(stations, count, small, links, answer)
+}
+
+fn answer_copy(
+    stations: u32,
+    count: usize,
+    small: bool,
+    links: [Link; 256],
+    area: &mut [u8],
+    written: &mut usize,
+) -> i32
+    ensures { λ r. ⌜ Of count small links (λ ys. Replied (λ reply. ListAnswered (listJob stations ys) (now (area .entry)) reply (now (area .exit))) r (now (written .exit))) ⌝ }
+{
+    let reply = service::list::answer_links(stations, count, small, links, area);
+    *written = reply.length;
+    number(reply.refusal)
+}
+
+// Answers a list into the area.
+#[no_mangle]
+pub extern "C" fn ist_answer_list(
+    stations: u32,
+    list: &[Link],
+    area: &mut [u8],
+    written: &mut usize,
+) -> i32
+    ensures { λ r. ⌜ Replied (λ reply. ListAnswered (listJob stations (now (list .entry))) (now (area .entry)) reply (now (area .exit))) r (now (written .exit)) ⌝ }
+{
+    let count = list.len();
+    let small = records::all_small(list);
+    let links = records::load(list);
+    answer_copy(stations, count, small, links, area, written)
+}
+
+fn write_copy(
+    stations: u32,
+    count: usize,
+    small: bool,
+    links: [Link; 256],
+    area: &mut [u8],
+    written: &mut usize,
+) -> i32
+    ensures { λ r. ⌜ Of count small links (λ ys. Replied (λ reply. ListWritten (listJob stations ys) (now (area .entry)) reply (now (area .exit))) r (now (written .exit))) ⌝ }
+{
+    let reply = service::list::write_links(stations, count, small, links, area);
+    *written = reply.length;
+    number(reply.refusal)
+}
+
+// Writes the job frame of a list into the area.
+#[no_mangle]
+pub extern "C" fn ist_write_job(
+    stations: u32,
+    list: &[Link],
+    area: &mut [u8],
+    written: &mut usize,
+) -> i32
+    ensures { λ r. ⌜ Replied (λ reply. ListWritten (listJob stations (now (list .entry))) (now (area .entry)) reply (now (area .exit))) r (now (written .exit)) ⌝ }
+{
+    let count = list.len();
+    let small = records::all_small(list);
+    let links = records::load(list);
+    write_copy(stations, count, small, links, area, written)
+}
