@@ -1,0 +1,225 @@
+"""Writes the files of jobs that bench/run measures, the same ones every time.
+
+Run: python3 bench/generate.py DIR
+
+A file holds job frames one after another, each preceded by its length in four bytes, lowest first. A link is a list of
+two ends, cost and mark (1 tree, 0 spare).
+"""
+import random
+import sys
+from pathlib import Path
+
+NODES, EDGES, COST_MOST = 64, 256, 16383
+
+
+# Frames.
+
+
+def number(x):
+    return bytes([x]) if x < 128 else bytes([x % 128 + 128, x // 128])
+
+
+def frame_of(numbers):
+    return b"".join(map(number, numbers))
+
+
+def numbers_of(nodes, links):
+    return [nodes, len(links)] + [x for link in links for x in link]
+
+
+def job_frame(nodes, links):
+    return frame_of(numbers_of(nodes, links))
+
+
+def write_jobs(path, frames):
+    path.write_bytes(b"".join(len(frame).to_bytes(4, "little") + frame for frame in frames))
+
+
+# Trees, as pairs of nodes, and links.
+
+
+def path_tree(rng, nodes):
+    return [(v - 1, v) for v in range(1, nodes)]
+
+
+def star_tree(rng, nodes):
+    return [(0, v) for v in range(1, nodes)]
+
+
+def random_tree(rng, nodes):
+    return [(rng.randrange(v), v) for v in range(1, nodes)]
+
+
+def random_pair(rng, nodes):
+    return rng.sample(range(nodes), 2)
+
+
+def shuffled(rng, nodes, links):
+    """The same job with other station numbers, links in another order and ends swapped at random."""
+    name = rng.sample(range(nodes), nodes)
+    links = [[name[a], name[b], cost, mark] for a, b, cost, mark in links]
+    for link in links:
+        if rng.random() < 0.5:
+            link[0], link[1] = link[1], link[0]
+    rng.shuffle(links)
+    return links
+
+
+def random_links(rng, nodes, edges, tree, tree_cost, spare_cost):
+    """Tree links with tree_cost() and random spares with spare_cost()."""
+    links = [[a, b, tree_cost(), 1] for a, b in tree]
+    while len(links) < edges:
+        links.append(random_pair(rng, nodes) + [spare_cost(), 0])
+    return shuffled(rng, nodes, links)
+
+
+# The kinds of jobs.
+
+
+def random_job(rng, nodes, edges):
+    def cost():
+        return rng.randint(0, COST_MOST)
+
+    return random_links(rng, nodes, edges, random_tree(rng, nodes), cost, cost)
+
+
+def tiny(rng):
+    nodes = rng.randint(2, 4)
+    return job_frame(nodes, random_job(rng, nodes, nodes - 1 + rng.randint(0, 4)))
+
+
+def medium(rng):
+    return job_frame(16, random_job(rng, 16, 48))
+
+
+def full(rng):
+    return job_frame(NODES, random_job(rng, NODES, EDGES))
+
+
+def level_job(rng, tree, tree_cost, spare_cost):
+    links = random_links(rng, NODES, EDGES, tree(rng, NODES), lambda: tree_cost, lambda: spare_cost)
+    return job_frame(NODES, links)
+
+
+def equal(rng):
+    cost = rng.randint(0, COST_MOST)
+    return level_job(rng, rng.choice([path_tree, star_tree, random_tree]), cost, cost)
+
+
+def twolevel(rng):
+    spare_cost, tree_cost = sorted(rng.sample(range(COST_MOST + 1), 2))
+    return level_job(rng, rng.choice([path_tree, random_tree]), tree_cost, spare_cost)
+
+
+# Adversarial jobs: the tree is a path, whose link k joins stations k and k + 1. Each shape gives the costs of the tree links
+# and 63 cheaper spares, as two ends and cost; the other spares are long and too dear.
+
+
+def fan(step):
+    """Every spare ends at the last station: the dearer a tree link, the more spares lie over it."""
+    return [3000 + 90 * k for k in range(63)], [(k, 63, 1000 + step * k) for k in range(63)]
+
+
+def windows(width):
+    """Spare k lies over `width` tree links from k on. The first links come last and find all their spares taken; with two to
+    a spare, link 0 moves all 62 pairs made before it."""
+    return [3000 + 90 * k for k in range(63)], [(k, min(k + width, 63), 1000 + 10 * k) for k in range(63)]
+
+
+def nested():
+    """Spares over ever shorter parts of the path, the longest ones cheapest; the links in the middle are dearest."""
+    tree = [3000 + 180 * min(k, 62 - k) for k in range(63)]
+    return tree, [(k // 2, 63 - (k + 1) // 2, 1000 + 10 * k) for k in range(63)]
+
+
+def adversarial(rng):
+    shapes = [lambda: fan(rng.randint(1, 30)), lambda: windows(rng.choice([2, 4, 8, 16, 32])), nested]
+    tree, cheap = rng.choice(shapes)()
+    links = [[k, k + 1, cost, 1] for k, cost in enumerate(tree)]
+    links += [[a, b, cost, 0] for a, b, cost in cheap]
+    while len(links) < EDGES:
+        a = rng.randrange(32)
+        links.append([a, rng.randint(a + 16, 63), rng.randint(9000, COST_MOST), 0])
+    return job_frame(NODES, shuffled(rng, NODES, links) if rng.random() < 0.5 else links)
+
+
+# Damaged frames: a random job spoiled so that one question refuses it. Two stations or more and a link, so that there is
+# something to spoil.
+
+
+def sound(rng):
+    nodes = rng.choice([2, 3, 8, 16, NODES])
+    return nodes, random_job(rng, nodes, min(EDGES, nodes + rng.randint(0, 2 * nodes)))
+
+
+def refused1(rng):
+    frame = job_frame(*sound(rng))
+    spoiled = rng.choice([b"\x80", b"\xff\xff\x01", b"\x85\x00"])
+    if spoiled == b"\x80":
+        return frame + spoiled
+    at = rng.choice([0, len(frame)])
+    return frame[:at] + spoiled + frame[at:]
+
+
+def refused2(rng):
+    nodes, links = sound(rng)
+    numbers = numbers_of(nodes, links)
+    return rng.choice([
+        frame_of(numbers[: rng.randint(0, 1)]),
+        frame_of([rng.choice([0, 65, 127, 128, COST_MOST])] + numbers[1:]),
+        frame_of([nodes, rng.randint(257, COST_MOST)] + numbers[2:]),
+    ])
+
+
+def refused3(rng):
+    nodes, links = sound(rng)
+    numbers = numbers_of(nodes, links)
+    if rng.random() < 0.1:
+        return frame_of(numbers) + frame_of(rng.choice(links)) * rng.randint(2000, 40000)
+    return frame_of(rng.choice([numbers[: rng.randint(2, len(numbers) - 1)], numbers + [rng.randint(0, COST_MOST)]]))
+
+
+def refused4(rng):
+    nodes, links = sound(rng)
+    link = rng.choice(links)
+    link[rng.randrange(2)] = rng.randint(nodes, COST_MOST)
+    if rng.random() < 0.5:
+        link[0] = link[1]
+    return job_frame(nodes, links)
+
+
+def refused5(rng):
+    nodes, links = sound(rng)
+    rng.choice(links)[3] = rng.randint(2, COST_MOST)
+    return job_frame(nodes, links)
+
+
+def refused6(rng):
+    nodes, links = sound(rng)
+    tree = [link for link in links if link[3] == 1]
+    spare = next(link for link in links if link[3] == 0)
+    lost = rng.choice(tree)
+    if nodes > 2 and rng.random() < 0.5:
+        kept = rng.choice([link for link in tree if link is not lost])
+        lost[:2] = kept[:2]  # a cycle: as many tree links as are due, but one is twice there
+    else:
+        rng.choice([lost, spare])[3] ^= 1
+    return job_frame(nodes, links)
+
+
+def damaged(rng):
+    return rng.choice([refused1, refused2, refused3, refused4, refused5, refused6])(rng)
+
+
+FILES = [(tiny, 1000), (medium, 100), (full, 100), (adversarial, 100), (equal, 100), (twolevel, 100), (damaged, 1000)]
+
+
+def main():
+    folder = Path(sys.argv[1])
+    folder.mkdir(parents=True, exist_ok=True)
+    for kind, count in FILES:
+        rng = random.Random(kind.__name__)
+        write_jobs(folder / f"{kind.__name__}.jobs", [kind(rng) for _ in range(count)])
+
+
+main()

@@ -1,0 +1,22 @@
+/* Holds every function of the library to the reference, on one job frame or one list of links. */
+#ifndef CHECK_H
+#define CHECK_H
+
+#include "reference.h"
+
+struct counts {
+    size_t frames, refused[7], with_steps, cheapest, steps_most, answer_longest;
+    size_t searched, offers_yes, offers_no, finds, lists, lists_refused[7], list_calls;
+};
+
+extern struct counts counts;
+/* Whether all alterations of an answer are tried and every job that has few edges is searched, or some of them. */
+extern bool thorough;
+
+void check_frame(const uint8_t *frame, size_t length);
+/* The same for a list of links, and for the frame that holds it. */
+void check_list(uint32_t nodes, const struct edge *edge, size_t count);
+/* Holds the outcome of the last frame to a refusal, or to 0 and an answer. */
+void expect_answer(int refusal, const uint8_t *answer, size_t length);
+
+#endif

@@ -1,0 +1,23 @@
+/* Random jobs of many shapes, and damage. Everything follows from the seed. */
+#ifndef GENERATE_H
+#define GENERATE_H
+
+#include "reference.h"
+
+/* The most bytes that damage adds to a frame. */
+enum { DAMAGE_MOST = 8 };
+
+typedef void job_visit(const struct job *job);
+
+void seed(uint64_t with);
+uint32_t pick(uint32_t below);
+/* An accepted job of at most so many nodes and edges; `full`: of exactly so many. */
+void random_job(struct job *job, uint32_t nodes_most, size_t edges_most, bool full);
+/* All jobs of at most 3 nodes, 3 edges and costs 0 and 1, those that questions 4 and 6 refuse among them. */
+void each_small_job(job_visit *visit);
+/* Makes one thing wrong, or at least different. */
+void damage_job(struct job *job);
+size_t damage_frame(const uint8_t *frame, size_t length, uint8_t *to);
+size_t random_bytes(uint8_t *to, uint32_t length_most);
+
+#endif

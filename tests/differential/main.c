@@ -1,0 +1,363 @@
+/* Holds the library to the reference, frame by frame.
+ *
+ * Run: compare [COUNT] [SEED]    COUNT random frames (default 1000000) besides the fixed ones, from SEED (default 1).
+ * It prints how many frames of each kind were checked and OK, or the first difference with its frame and exits with 1. */
+#include <stdio.h>
+#include <stdlib.h>
+#include <string.h>
+
+#include "check.h"
+#include "generate.h"
+#include "lend.h"
+#include "rows.h"
+
+#define COUNT_OF(array) (sizeof(array) / sizeof(array)[0])
+
+static uint8_t frame[JOB_ROOM];
+static struct job job;
+
+/* Prints how many frames were checked since the last call. */
+static void report(const char *kind)
+{
+    static size_t reported;
+
+    printf("%9zu %s\n", counts.frames - reported, kind);
+    fflush(stdout);
+    reported = counts.frames;
+}
+
+/* Fixed frames. */
+
+static void check_rows(void)
+{
+    uint8_t answer[ROW_ROOM];
+
+    for (size_t i = 0; i < ROWS; i++) {
+        check_frame(frame, from_hex(rows[i].job, frame));
+        expect_answer(rows[i].refusal, answer, from_hex(rows[i].answer, answer));
+    }
+    check_frame(frame, from_hex(thirteen, frame));
+    report("rows of document 01");
+}
+
+/* Two stations and links between them, of which the first is the tree. */
+static void fill_parallel(struct edge *edge, size_t count)
+{
+    for (size_t e = 0; e < count; e++)
+        edge[e] = (struct edge){0, 1, e == 0 ? 5 : 4, e == 0};
+}
+
+static void check_link_counts(void)
+{
+    static struct edge edge[300];
+    const size_t tried[] = {127, 128, 255, 256, 257, 258, 300};
+
+    fill_parallel(edge, COUNT_OF(edge));
+    for (size_t i = 0; i < COUNT_OF(tried); i++)
+        check_frame(frame, put_edges(frame, 2, edge, tried[i]));
+    report("jobs of 127 to 300 parallel links");
+}
+
+static void check_short_frames(void)
+{
+    check_frame(frame, 0);
+    for (uint32_t bytes = 0; bytes < 65536; bytes++) {
+        frame[0] = (uint8_t)bytes;
+        frame[1] = (uint8_t)(bytes >> 8);
+        if (bytes < 256)
+            check_frame(frame, 1);
+        check_frame(frame, 2);
+    }
+    report("frames of 0 to 2 bytes: all");
+}
+
+static void check_job(const struct job *made)
+{
+    check_frame(frame, put_job(frame, made));
+}
+
+static void check_small_jobs(void)
+{
+    thorough = true;
+    each_small_job(check_job);
+    thorough = false;
+    report("jobs of at most 3 stations, 3 links, costs 0 to 1: all");
+}
+
+static void check_longest_jobs(void)
+{
+    for (size_t tried = 0; tried < 20; tried++) {
+        random_job(&job, NODES_MOST, EDGES_MOST, true);
+        for (size_t e = 0; e < EDGES_MOST; e++)
+            job.edge[e].cost |= 128;
+        size_t length = put_job(frame, &job);
+        expect("the longest job's length", (int64_t)length, IST_JOB_MOST);
+        check_frame(frame, length);
+        check_frame(frame, length - 1);
+        frame[length] = (uint8_t)pick(2);
+        check_frame(frame, length + 1);
+    }
+    report("jobs of 1,283 bytes, a byte less and a byte more");
+}
+
+/* A path of tree links at the end, a cheaper spare along each, and spares in front that are as dear. */
+static void fill_longest_answer(uint32_t spare_cost)
+{
+    const size_t trees = NODES_MOST - 1, first_tree = EDGES_MOST - trees, first_cheap = first_tree - trees;
+
+    job.nodes = NODES_MOST;
+    job.edges = EDGES_MOST;
+    for (size_t e = 0; e < first_cheap; e++)
+        job.edge[e] = (struct edge){0, 1, COST_MOST, 0};
+    for (uint32_t v = 0; v < trees; v++) {
+        job.edge[first_cheap + v] = (struct edge){v, v + 1, spare_cost, 0};
+        job.edge[first_tree + v] = (struct edge){v, v + 1, COST_MOST, 1};
+    }
+}
+
+static void check_longest_answer(void)
+{
+    fill_longest_answer(128);
+    check_job(&job);
+    expect("the longest answer's length", (int64_t)counts.answer_longest, IST_ANSWER_MOST);
+    fill_longest_answer(0);
+    check_job(&job);
+    report("jobs of the longest answer and of most steps");
+}
+
+/* One byte all through; a row's job before it; one that begins a number behind it. */
+static void check_long_frames(void)
+{
+    const size_t lengths[] = {1282, 1283, 1284, 16384, 65536, 1000000};
+    const uint8_t fillers[] = {0x00, 0x01, 0x7f, 0x80, 0xff};
+
+    for (size_t i = 0; i < COUNT_OF(lengths); i++)
+        for (size_t j = 0; j < COUNT_OF(fillers); j++) {
+            memset(frame, fillers[j], lengths[i]);
+            check_frame(frame, lengths[i]);
+            from_hex(rows[0].job, frame);
+            check_frame(frame, lengths[i]);
+            frame[lengths[i] - 1] = 0x80;
+            check_frame(frame, lengths[i]);
+        }
+    report("frames of 1,282 to 1,000,000 bytes");
+}
+
+/* Lists. */
+
+static const uint32_t odd_values[] = {16383, 16384, 32768, 65536, (uint32_t)1 << 24, (uint32_t)1 << 31, UINT32_MAX};
+
+/* The number in the place, counted as the frame's but without the link count. */
+static uint32_t *number_at(struct job *in, size_t place)
+{
+    if (place == 0)
+        return &in->nodes;
+    struct edge *edge = &in->edge[(place - 1) / 4];
+    return (uint32_t *[]){&edge->end1, &edge->end2, &edge->cost, &edge->mark}[(place - 1) % 4];
+}
+
+/* The job's list with another number in one place. */
+static void check_odd_list(size_t place, uint32_t value)
+{
+    uint32_t *number = number_at(&job, place), kept = *number;
+
+    *number = value;
+    check_list(job.nodes, job.edge, job.edges);
+    *number = kept;
+}
+
+static void check_odd_places(void)
+{
+    for (size_t place = 0; place <= 4 * job.edges; place++)
+        for (size_t i = 0; i < COUNT_OF(odd_values); i++) {
+            check_odd_list(place, odd_values[i]);
+            check_odd_list(place, odd_values[i] + *number_at(&job, place));
+        }
+}
+
+/* Right but for the length, and with a number too large in the last record. */
+static void check_list_lengths(void)
+{
+    static struct edge edge[LINKS_ROOM];
+    const size_t tried[] = {1, 2, 255, 256, 257, 300, 512, 16383, 16384, 16385, 65536, 65538, LINKS_ROOM};
+
+    fill_parallel(edge, LINKS_ROOM);
+    for (size_t i = 0; i < COUNT_OF(tried); i++) {
+        struct edge *last = &edge[tried[i] - 1], kept = *last;
+        check_list(2, edge, tried[i]);
+        last->cost = COST_MOST + 1;
+        check_list(2, edge, tried[i]);
+        *last = kept;
+    }
+}
+
+static void check_lists(void)
+{
+    const uint32_t stations[] = {0, 1, 2, 63, 64, 65, 256, 257, 16383, 16384, 16385, 65537, UINT32_MAX};
+
+    for (size_t i = 0; i < COUNT_OF(stations); i++)
+        check_list(stations[i], NULL, 0);
+    check_list_lengths();
+    for (size_t tried = 0; tried < 30; tried++) {
+        random_job(&job, 4, 6, false);
+        check_odd_places();
+    }
+    random_job(&job, NODES_MOST, EDGES_MOST, true);
+    check_odd_places();
+    report("lists with odd lengths and numbers");
+}
+
+/* Random frames. */
+
+static void check_random_job(uint32_t nodes_most, size_t edges_most, bool full)
+{
+    random_job(&job, nodes_most, edges_most, full);
+    check_job(&job);
+}
+
+static void check_tiny(void)
+{
+    check_random_job(4, 6, false);
+}
+
+static void check_small(void)
+{
+    check_random_job(7, 12, false);
+}
+
+static void check_medium(void)
+{
+    check_random_job(20, 60, false);
+}
+
+static void check_large(void)
+{
+    check_random_job(NODES_MOST, EDGES_MOST, false);
+}
+
+static void check_full(void)
+{
+    check_random_job(NODES_MOST, EDGES_MOST, true);
+}
+
+static void random_small_job(void)
+{
+    if (pick(2) == 0)
+        random_job(&job, 4, 6, false);
+    else
+        random_job(&job, 7, 12, false);
+}
+
+static void check_wrong_links(void)
+{
+    random_small_job();
+    for (uint32_t times = 1 + pick(2); times > 0; times--)
+        damage_job(&job);
+    check_job(&job);
+}
+
+/* The job's frame, damaged once or more. */
+static void check_damage(void)
+{
+    static uint8_t damaged[JOB_ROOM];
+    size_t length = put_job(frame, &job);
+
+    for (uint32_t times = 1 + pick(2) * pick(3); times > 0; times--) {
+        length = damage_frame(frame, length, damaged);
+        memcpy(frame, damaged, length);
+    }
+    check_frame(frame, length);
+}
+
+static void check_damaged(void)
+{
+    random_small_job();
+    check_damage();
+}
+
+static void check_damaged_large(void)
+{
+    random_job(&job, NODES_MOST, EDGES_MOST, pick(2) == 0);
+    check_damage();
+}
+
+static void check_random_bytes(void)
+{
+    check_frame(frame, random_bytes(frame, 20));
+}
+
+static void check_random_list(void)
+{
+    random_small_job();
+    check_odd_list(pick(4 * (uint32_t)job.edges + 1), odd_values[pick(COUNT_OF(odd_values))]);
+}
+
+static const struct share {
+    uint32_t in_10000;
+    void (*check)(void);
+    const char *kind;
+} shares[] = {
+    {2800, check_tiny, "random jobs of up to 4 stations and 6 links"},
+    {1700, check_small, "random jobs of up to 7 stations and 12 links"},
+    {200, check_medium, "random jobs of up to 20 stations and 60 links"},
+    {30, check_large, "random jobs of up to 64 stations and 256 links"},
+    {20, check_full, "random jobs of 64 stations and 256 links"},
+    {2200, check_wrong_links, "jobs with wrong links"},
+    {2200, check_damaged, "damaged frames"},
+    {50, check_damaged_large, "damaged frames of up to 256 links"},
+    {500, check_random_bytes, "frames of random bytes"},
+    {300, check_random_list, "lists with a large number"},
+};
+
+static void check_random(size_t count)
+{
+    for (size_t i = 0; i < COUNT_OF(shares); i++) {
+        for (size_t done = 0; done < (count * shares[i].in_10000 + 9999) / 10000; done++)
+            shares[i].check();
+        report(shares[i].kind);
+    }
+}
+
+static void print_list_counts(void)
+{
+    printf("%zu lists: %zu accepted", counts.lists, counts.lists_refused[0]);
+    for (int number = 1; number <= 6; number++)
+        printf(", %zu refused %d", counts.lists_refused[number], number);
+    printf("; %zu list calls\n", counts.list_calls);
+}
+
+static void print_counts(void)
+{
+    printf("%zu frames: %zu accepted", counts.frames, counts.refused[0]);
+    for (int number = 1; number <= 6; number++)
+        printf(", %zu refused %d", counts.refused[number], number);
+    printf("\naccepted: %zu with steps, up to %zu; %zu with the tree cheapest; ", counts.with_steps, counts.steps_most,
+           counts.cheapest);
+    printf("longest answer %zu bytes; %zu searched whole\n", counts.answer_longest, counts.searched);
+    printf("%zu areas, %zu parts found, %zu answers judged yes, %zu judged no or refused\n", areas_tried, counts.finds,
+           counts.offers_yes, counts.offers_no);
+    if (counts.lists == 0)
+        printf("no list functions in the library\n");
+    else
+        print_list_counts();
+}
+
+int main(int argc, char **argv)
+{
+    size_t count = argc > 1 ? strtoul(argv[1], NULL, 10) : 1000000;
+
+    seed(argc > 2 ? strtoull(argv[2], NULL, 10) : 1);
+    make_fences();
+    check_rows();
+    check_link_counts();
+    check_short_frames();
+    check_small_jobs();
+    check_longest_jobs();
+    check_longest_answer();
+    check_long_frames();
+    check_lists();
+    check_random(count);
+    print_counts();
+    printf("OK\n");
+    return 0;
+}

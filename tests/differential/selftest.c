@@ -1,0 +1,219 @@
+/* Holds the reference to document 01's rows and to trying everything, without the library.
+ *
+ * Run: selftest [COUNT] [SEED]    COUNT random jobs (default 20000) besides the rows and all small jobs. */
+#include <stdio.h>
+#include <stdlib.h>
+#include <string.h>
+
+#include "exhaustive.h"
+#include "generate.h"
+#include "rows.h"
+
+static struct job job;
+static struct solution solution;
+static struct search search;
+static struct trees trees;
+static size_t jobs_searched, jobs_proved, choices_judged, lists_judged;
+
+static void require(bool holds, const char *what)
+{
+    uint8_t frame[4 * NUMBERS_MOST];
+    size_t length = put_job(frame, &job);
+
+    if (holds)
+        return;
+    printf("different: %s\nframe:", what);
+    for (size_t i = 0; i < length; i++)
+        printf(" %02x", frame[i]);
+    printf("\n");
+    exit(1);
+}
+
+static bool judged_yes(const struct answer *answer)
+{
+    static struct numbers numbers;
+    static uint8_t frame[ANSWER_ROOM];
+
+    divide(frame, put_answer(frame, &job, answer), 3, &numbers);
+    return judge_answer(&job, &numbers);
+}
+
+/* Are these costs judged best with the solution's matching? */
+static bool judged_best(const int32_t *cost)
+{
+    static struct answer answer;
+
+    answer.steps = solution.steps;
+    memcpy(answer.cost, cost, job.edges * sizeof cost[0]);
+    answer.matching = solution.matching;
+    return judged_yes(&answer);
+}
+
+static void judge_choice(const int32_t *cost, void *context)
+{
+    (void)context;
+    for (size_t e = 0; e < job.edges; e++)
+        if (cost[e] < 0 || cost[e] > COST_MOST)
+            return;
+    require(judged_best(cost) == is_cheapest_of(&job, &trees, cost), "the judge of answers and all spanning trees");
+    choices_judged++;
+}
+
+static bool is_listed(const struct matching *matching)
+{
+    for (size_t i = 0; i < search.matchings; i++)
+        if (search.matching[i].pairs == matching->pairs &&
+            memcmp(search.matching[i].pair, matching->pair, matching->pairs * sizeof matching->pair[0]) == 0)
+            return true;
+    return false;
+}
+
+/* Every list of at most so many more pairs, of any numbers up to the link count, is judged yes exactly if it was found. */
+static void judge_lists(struct answer *answer, size_t more)
+{
+    struct matching *matching = &answer->matching;
+
+    require(judged_yes(answer) == is_listed(matching), "the judge of answers and all matchings");
+    lists_judged++;
+    for (uint32_t tree = 0; more > 0 && tree <= job.edges; tree++)
+        for (uint32_t spare = 0; spare <= job.edges; spare++) {
+            matching->pair[matching->pairs++] = (struct pair){tree, spare};
+            judge_lists(answer, more - 1);
+            matching->pairs--;
+        }
+}
+
+static void judge_pairs(void)
+{
+    static struct answer answer;
+
+    answer.steps = solution.steps;
+    memcpy(answer.cost, solution.low, sizeof answer.cost);
+    judge_lists(&answer, 2);
+}
+
+static void check_cheapest(void)
+{
+    int32_t cost[EDGES_MOST];
+
+    old_costs(&job, cost);
+    require(is_cheapest(&job, cost) == is_cheapest_of(&job, &trees, cost), "the judge of trees and all spanning trees");
+    require(is_cheapest(&job, cost) == (solution.steps == 0), "the judge of trees and the steps");
+    for (size_t e = 0; e < job.edges; e++)
+        cost[e] = (int32_t)pick(5) - 2;
+    require(is_cheapest(&job, cost) == is_cheapest_of(&job, &trees, cost), "cheapest with negative costs");
+}
+
+/* The solution of a job with few edges and steps is what trying everything finds. */
+static void check_by_search(void)
+{
+    size_t bytes = job.edges * sizeof solution.low[0];
+
+    find_trees(&job, &trees);
+    search_all(&job, &search);
+    require(solution.steps == search.steps, "steps");
+    require(memcmp(solution.low, search.low, bytes) == 0, "lowest costs");
+    require(memcmp(solution.high, search.high, bytes) == 0, "highest costs");
+    require(search.matchings == MATCHINGS_MOST || is_listed(&solution.matching), "matching");
+    check_cheapest();
+    each_choice(&job, solution.steps, judge_choice, NULL);
+    if (job.edges <= 4)
+        judge_pairs();
+    jobs_searched++;
+}
+
+/* The matching proves the costs best: its weight is their steps. */
+static void check_by_proof(void)
+{
+    require(weight(&job, &solution.matching) == (int64_t)solution.steps, "the matching's weight");
+    require(judged_best(solution.low), "the judge of answers says yes to the lowest costs");
+    require(judged_best(solution.high), "the judge of answers says yes to the highest costs");
+    jobs_proved++;
+}
+
+static void check_round_trip(void)
+{
+    static struct numbers numbers;
+    static struct job again;
+    uint8_t frame[2 * NUMBERS_MOST];
+
+    divide(frame, put_job(frame, &job), 2, &numbers);
+    require(read_job(&numbers, &again) == 0, "the job's frame is accepted");
+    require(again.nodes == job.nodes && again.edges == job.edges &&
+                memcmp(again.edge, job.edge, job.edges * sizeof job.edge[0]) == 0,
+            "the job's frame reads as the job");
+}
+
+static void check_job(void)
+{
+    check_round_trip();
+    solve(&job, &solution);
+    check_by_proof();
+    if (job.edges <= 6 && solution.steps <= 4)
+        check_by_search();
+}
+
+static void check_small_job(const struct job *small)
+{
+    for (size_t e = 0; e < small->edges; e++)
+        if (small->edge[e].end1 == small->edge[e].end2)
+            return;
+    if (!is_spanning(small))
+        return;
+    job = *small;
+    check_job();
+}
+
+static void read_row(const char *text, int refusal)
+{
+    static struct numbers numbers;
+    uint8_t frame[ROW_ROOM];
+
+    divide(frame, from_hex(text, frame), 2, &numbers);
+    require(read_job(&numbers, &job) == refusal, text);
+    if (refusal == 0)
+        solve(&job, &solution);
+}
+
+static void check_row(const struct row *row)
+{
+    static struct answer answer;
+    uint8_t wanted[ROW_ROOM], written[ANSWER_ROOM];
+    size_t length = from_hex(row->answer, wanted);
+
+    read_row(row->job, row->refusal);
+    if (row->refusal != 0)
+        return;
+    answer.steps = solution.steps;
+    memcpy(answer.cost, solution.low, sizeof answer.cost);
+    answer.matching = solution.matching;
+    require(put_answer(written, &job, &answer) == length && memcmp(written, wanted, length) == 0, row->name);
+    require(judged_yes(&answer), row->name);
+}
+
+static void check_thirteen(void)
+{
+    read_row(thirteen, 0);
+    require(solution.steps == 13, "13 steps");
+    for (size_t e = 0; e < job.edges; e++)
+        require(solution.low[e] == 3, "all costs 3");
+}
+
+int main(int argc, char **argv)
+{
+    long count = argc > 1 ? strtol(argv[1], NULL, 10) : 20000;
+
+    seed(argc > 2 ? strtoull(argv[2], NULL, 10) : 1);
+    for (size_t i = 0; i < ROWS; i++)
+        check_row(&rows[i]);
+    check_thirteen();
+    each_small_job(check_small_job);
+    for (long i = 0; i < count; i++) {
+        bool large = i % 100 == 0;
+        random_job(&job, large ? 64 : 5, large ? 256 : 6 + pick(6), large && pick(2) == 0);
+        check_job();
+    }
+    printf("selftest: %zu jobs proved by their matching, %zu of them searched whole, ", jobs_proved, jobs_searched);
+    printf("%zu costs and %zu lists of pairs judged\n", choices_judged, lists_judged);
+    return 0;
+}
