@@ -15,7 +15,7 @@ use Rattle.loops.specs.GatherLaws.{length-tabulate, tabulate-getD}
 use Rattle.leb128.specs.Number.{Bytes, decode, readAt}
 use Rattle.leb128.specs.Number.Decoded.{number}
 use Rattle.leb128.specs.declared.Number.the-variants as Read
-use Rattle.leb128.specs.Laws.{decode-size, bytes-drop}
+use Rattle.leb128.specs.Laws.{decode-size, bytes-drop, located-value, located-refused}
 use Rattle.optimum.specs.Optimum.{Pair, Answer}
 use Rattle.frame.specs.Job.{stepBytes, bytesOf}
 use Rattle.frame.specs.Questions.{numbers}
@@ -25,7 +25,6 @@ use Rattle.frame.specs.Division.{division}
 use Rattle.job.specs.declared.read.Taken.{Taken}
 use Rattle.job.specs.declared.read.Numbers.the-variants.{Count, Refused}
 use Rattle.job.specs.Reading.{takenAt, countFrom}
-use Rattle.job.specs.ReadingLaws.{located-value, located-refused}
 use Rattle.job.specs.CountLaws.{count-some, count-none}
 use Rattle.job.specs.LoadLaws.{Next, next-number}
 use Rattle.job.specs.FormLaws.{parts-join, drop-divides, sets-at}

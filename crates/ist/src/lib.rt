@@ -61,9 +61,9 @@ pub extern "C" fn ist_judge_answer(job: &[u8], answer: &[u8]) -> i32
 pub extern "C" fn ist_find_link(job: &[u8], link: u32, offset: &mut usize, length: &mut usize)
     ensures { λ _. ⌜ LinkLocated (now (job .entry)) link (record { offset = now (offset .exit); size = now (length .exit) }) ⌝ }
 {
-    let part = service::find::locate_link(job, Edge(link));
-    *offset = part.offset;
-    *length = part.length;
+    let numbers = service::find::locate_link(job, Edge(link));
+    *offset = numbers.offset;
+    *length = numbers.length;
 }
 
 // Where a link's new cost stands in an answer frame.
@@ -77,7 +77,7 @@ pub extern "C" fn ist_find_cost(
 )
     ensures { λ _. ⌜ CostLocated (now (job .entry)) (now (answer .entry)) link (record { offset = now (offset .exit); size = now (length .exit) }) ⌝ }
 {
-    let part = service::find::locate_cost(job, answer, Edge(link));
-    *offset = part.offset;
-    *length = part.length;
+    let cost = service::find::locate_cost(job, answer, Edge(link));
+    *offset = cost.offset;
+    *length = cost.length;
 }

@@ -89,9 +89,9 @@ fn write_copy(
 ) -> i32
     ensures { λ r. ⌜ Of count small links (λ ys. Replied (λ reply. ListWritten (listJob stations ys) (now (area .entry)) reply (now (area .exit))) r (now (written .exit))) ⌝ }
 {
-    let reply = service::list::write_links(stations, count, small, links, area);
-    *written = reply.length;
-    number(reply.refusal)
+    let frame = service::list::write_links(stations, count, small, links, area);
+    *written = frame.length;
+    number(frame.refusal)
 }
 
 // Writes the job frame of a list into the area.

@@ -12,10 +12,10 @@ use lib.Seq.{drop-drop}
 use borrow.Author.Tests.{lt-ltb, le-ltb, eq-eqb, ne-eqb}
 use Rattle.loops.specs.Loop.{scan}
 use Rattle.loops.specs.ScanLaws.{scan-turn}
-use Rattle.leb128.specs.Number.{Decoded, decode, located, readAt}
+use Rattle.leb128.specs.Number.{decode, readAt}
 use Rattle.leb128.specs.Number.Decoded.{number}
 use Rattle.leb128.specs.declared.Number.the-variants as Read
-use Rattle.leb128.specs.Laws.{decode-size}
+use Rattle.leb128.specs.Laws.{decode-size, located-value, located-refused}
 use Rattle.frame.specs.Job.{numberBytes}
 use Rattle.frame.specs.Questions.{divide, numbers}
 use Rattle.frame.specs.Division.{divide-end, divide-number, divide-none}
@@ -25,19 +25,6 @@ use Rattle.job.specs.declared.read.Numbers.the-variants.{Count, Refused}
 use Rattle.job.specs.Reading.{taken, takenAt, countFrom, Loaded, loadLink, arrays, endsApart}
 
 -- What the reader of numbers says, in terms of what stands there.
-pub located-value : (at : ℕ) (d : Decoded) (v next : ℕ) → located at d ≡ Read.Value v next → (n : ℕ) × (d ≡ number v n) × (next ≡ at + n)
-unfolding located
-located-value at (number w n) v next e =
-    let same : w ≡ v = cc in
-    let there : next ≡ at + n = cc in
-    (n, rw same, there)
-located-value at Decoded.none v next e = let z : _≡_ {A = ℕ} 0 1 = cc in absurd (omega arith)
-
-pub located-refused : (at : ℕ) (d : Decoded) → located at d ≡ Read.Refused → d ≡ Decoded.none
-unfolding located
-located-refused at (number w n) e = let z : _≡_ {A = ℕ} 0 1 = cc in absurd (omega arith)
-located-refused at Decoded.none e = refl
-
 pub taken-value : (s : List ℕ) (at v next : ℕ) → readAt numberBytes s at ≡ Read.Value v next → takenAt s at ≡ record { value = v; next = next }
 unfolding taken
 taken-value s at v next e =

@@ -36,7 +36,7 @@ pub struct Header {
 pub fn number_at(s: &[u8], at: usize) -> Taken
     ensures { λ r. ⌜ r ≡ takenAt (now (s .entry)) at ⌝ }
 {
-    let n = leb128::read(s, at, 2);
+    let n = leb128::read_short(s, at);
     match n {
         Number::Value(value, next) => Taken {
             value: value,
@@ -53,7 +53,7 @@ pub fn count_numbers(frame: &[u8]) -> Numbers
     let mut at: usize = 0;
     let mut count: usize = 0;
     while at < frame.len() {
-        let n = leb128::read(frame, at, 2);
+        let n = leb128::read_short(frame, at);
         let Number::Value(_, next) = n else {
             return Numbers::Refused;
         };

@@ -9,10 +9,10 @@ use mathlib.Core.List.{List, [], _∷_}
 use lib.ListN.{length, drop, getD, drop-of-length-le}
 use lib.Seq.{drop-cons}
 use borrow.Author.Tests.{lt-ltb, le-ltb}
-use Rattle.leb128.specs.Number.{Bytes, encode, Decoded, extend, decode, located, readAt}
+use Rattle.leb128.specs.Number.{Bytes, encode, extend, decode, located, readAt}
 use Rattle.leb128.specs.Number.Decoded.{number, none}
 use Rattle.leb128.specs.declared.Number.the-variants.{Value, Refused}
-use Rattle.leb128.specs.Laws.{bytes-drop, decode-bound, extend-zero, extend-more}
+use Rattle.leb128.specs.Laws.{bytes-drop, decode-bound, extend-zero, extend-more, located-value, located-refused}
 
 pub encode-none : (k x : ℕ) → k ≡ 0 → encode k x ≡ []
 unfolding encode
@@ -62,20 +62,6 @@ read-rest zero s at some within l = absurd (some refl)
 read-rest (suc k) s at some within l =
     let less : suc k - 1 ≡ k = omega arith in
     rw (drop-cons s at 0 within, le-ltb (getD s at 0) 128 l, less, add-one)
-
--- What an answer says of what was read.
-located-value :
-    (at : ℕ) (d : Decoded) (v next : ℕ) →
-    located at d ≡ Value v next →
-    (n : ℕ) × (d ≡ number v n) × (next ≡ at + n)
-unfolding located
-located-value at (number w m) v next e = (m, cc, cc)
-located-value at none v next e = let z : _≡_ {A = ℕ} 0 1 = cc in absurd (omega arith)
-
-located-refused : (at : ℕ) (d : Decoded) → located at d ≡ Refused → d ≡ none
-unfolding located
-located-refused at (number w m) e = let z : _≡_ {A = ℕ} 0 1 = cc in absurd (omega arith)
-located-refused at none e = refl
 
 module _ (k : ℕ) (s : List ℕ) (at : ℕ) (some : k ≡ 0 → ⊥) (within : at < length s) (more : 128 ≤ getD s at 0) where
   pub read-refused : readAt (k - 1) s (at + 1) ≡ Refused → readAt k s at ≡ Refused

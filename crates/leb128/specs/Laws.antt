@@ -9,8 +9,9 @@ use mathlib.Core.List.{List, [], _∷_, _++_, append-cancel-left}
 use lib.ListN.{length, take, drop}
 use lib.Seq.{getD-drop, take-length}
 use borrow.Author.Tests.{lt-ltb, le-ltb, ne-eqb}
-use Rattle.leb128.specs.Number.{Bytes, encode, Decoded, extend, decode}
+use Rattle.leb128.specs.Number.{Bytes, encode, Decoded, extend, decode, located}
 use Rattle.leb128.specs.Number.Decoded.{number, none}
+use Rattle.leb128.specs.declared.Number.the-variants.{Value, Refused}
 
 pub bytes-nil : Bytes []
 bytes-nil i = omega arith
@@ -212,3 +213,17 @@ encode-size-most (suc k) x =
       | yes l ↦ omega (arith, encode-size-last k x l)
       | no l ↦ omega (arith, encode-size-more k x (omega arith), encode-size-most k (x / 128))
     ]
+
+-- What an answer says of what was read.
+pub located-value :
+    (at : ℕ) (d : Decoded) (v next : ℕ) →
+    located at d ≡ Value v next →
+    (n : ℕ) × (d ≡ number v n) × (next ≡ at + n)
+unfolding located
+located-value at (number w m) v next e = (m, cc, cc)
+located-value at none v next e = let z : _≡_ {A = ℕ} 0 1 = cc in absurd (omega arith)
+
+pub located-refused : (at : ℕ) (d : Decoded) → located at d ≡ Refused → d ≡ none
+unfolding located
+located-refused at (number w m) e = let z : _≡_ {A = ℕ} 0 1 = cc in absurd (omega arith)
+located-refused at none e = refl

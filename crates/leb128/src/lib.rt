@@ -1,6 +1,6 @@
 // Canonical LEB128 numbers in slices: read and written at a position. The layout is specs/Number.antt's.
 ghost use mathlib.Core.Path.{_≡_};
-ghost use Prim.Native.Nat.{_+_, _<_, _≤_};
+ghost use Prim.Native.Nat.{_+_, _≤_};
 ghost use lib.ListN.{length};
 ghost use lib.Seq.{sets};
 ghost use Rattle.leb128.specs.Number.{encode, readAt};
@@ -13,9 +13,9 @@ pub enum Number {
     Refused,
 }
 
-// The number of at most `most` bytes that stands at `at`, byte by byte.
-fn read_long(s: &[u8], at: usize, most: u32) -> Number
-    requires { ⌜ most < 5 ⌝ }
+// The number of at most `most` bytes that stands at `at`.
+pub fn read(s: &[u8], at: usize, most: u32) -> Number
+    requires { ⌜ most ≤ 4 ⌝ }
     ensures { λ r. ⌜ r ≡ readAt most (now (s .entry)) at ⌝ }
 {
     if most == 0 {
@@ -28,7 +28,7 @@ fn read_long(s: &[u8], at: usize, most: u32) -> Number
     if b < 128 {
         return Number::Value(b, at + 1);
     }
-    let rest = read_long(s, at + 1, most - 1);
+    let rest = read(s, at + 1, most - 1);
     match rest {
         Number::Value(v, next) => {
             if v == 0 {
@@ -40,21 +40,29 @@ fn read_long(s: &[u8], at: usize, most: u32) -> Number
     }
 }
 
-// The number of at most `most` bytes that stands at `at`. Most numbers have one byte: they cost no call.
-pub fn read(bytes: &[u8], at: usize, most: u32) -> Number
-    requires { ⌜ most ≤ 4 ⌝ }
-    ensures { λ r. ⌜ r ≡ readAt most (now (bytes .entry)) at ⌝ }
+// The number of at most two bytes that stands at `at`: the same as `read`, without a call for each byte.
+pub fn read_short(bytes: &[u8], at: usize) -> Number
+    ensures { λ r. ⌜ r ≡ readAt 2 (now (bytes .entry)) at ⌝ }
 {
-    if most == 0 {
+    if bytes.len() <= at {
         return Number::Refused;
     }
-    if at < bytes.len() {
-        let byte = bytes[at] as u32;
-        if byte < 128 {
-            return Number::Value(byte, at + 1);
-        }
+    let low = bytes[at] as u32;
+    if low < 128 {
+        return Number::Value(low, at + 1);
     }
-    read_long(bytes, at, most)
+    let second = at + 1;
+    if bytes.len() <= second {
+        return Number::Refused;
+    }
+    let high = bytes[second] as u32;
+    if 128 <= high {
+        return Number::Refused;
+    }
+    if high == 0 {
+        return Number::Refused;
+    }
+    Number::Value(low - 128 + 128 * high, second + 1)
 }
 
 // How many bytes `x` takes.

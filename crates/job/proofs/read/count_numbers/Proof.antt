@@ -20,8 +20,8 @@ abbrev μ-loop : tie.MeasureT-loop
 loop-holds : tie.Need-loop-holds Inv-loop μ-loop
 loop-holds c = count-start _
 
-read-requires : tie.Need-read-requires Inv-loop μ-loop
-read-requires c κs = search needs
+read-short-requires : tie.Need-read-short-requires Inv-loop μ-loop
+read-short-requires c κs = search needs
 
 enum-known-n : tie.Need-enum-known-n Inv-loop μ-loop
 enum-known-n c = c .match .keys1
@@ -33,7 +33,7 @@ returns : tie.Need-returns Inv-loop μ-loop
 returns c =
     let r = c .before .before in
     let l = r .before .before in
-    count-refused _ (l .loop .at) (l .loop .count) _ (l .loop .inv) (r .before .loop-test .taken) (sym (r .read .ensures) ∙ c .enum-told .given .1)
+    count-refused _ (l .loop .at) (l .loop .count) _ (l .loop .inv) (r .before .loop-test .taken) (sym (r .read-short .ensures) ∙ c .enum-told .given .1)
 
 -- the invariant behind the number that was read
 turned : (c : tie.After-known-told Inv-loop μ-loop) → Counting (c .before .before .before .before .before .before .before .args .frame .now) (c .before .n .given .0 .1 .0) (c .before .before .before .before .before .loop .count + 1) (countFrom 0 (numbers (c .before .before .before .before .before .before .before .args .frame .now)))
@@ -41,7 +41,7 @@ turned c =
     let r = c .before .before .before in
     let l = r .before .before in
     let n = c .before .n .given in
-    count-turn _ (l .loop .at) (l .loop .count) _ (l .loop .inv) (r .before .loop-test .taken) (n .0 .0) (n .0 .1 .0) (sym (r .read .ensures) ∙ n .1)
+    count-turn _ (l .loop .at) (l .loop .count) _ (l .loop .inv) (r .before .loop-test .taken) (n .0 .0) (n .0 .1 .0) (sym (r .read-short .ensures) ∙ n .1)
 
 add-count : tie.Need-add-count Inv-loop μ-loop
 add-count c = omega (arith, turned c .few, turned c .within)
@@ -50,7 +50,7 @@ loop-less : tie.Need-loop-less Inv-loop μ-loop
 loop-less c =
     let r = c .before .before .before in
     let n = c .before .n .given in
-    omega (arith, read-further _ _ (n .0 .0) (n .0 .1 .0) (sym (r .read .ensures) ∙ n .1))
+    omega (arith, read-further _ _ (n .0 .0) (n .0 .1 .0) (sym (r .read-short .ensures) ∙ n .1))
 
 loop-again : tie.Need-loop-again Inv-loop μ-loop
 loop-again c = turned c
@@ -65,7 +65,7 @@ count-numbers-spec =
     Inv-loop
     μ-loop
     loop-holds
-    read-requires
+    read-short-requires
     enum-known-n
     enum-told
     returns

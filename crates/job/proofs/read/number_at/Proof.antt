@@ -5,8 +5,8 @@ use borrow.Author.Needs.{needs}
 use Rattle.job.proofs.read.number_at.Statement.{statement}
 use Rattle.job.proofs.read.number_at.Tie as tie
 
-read-requires : tie.Need-read-requires
-read-requires c κs = search needs
+read-short-requires : tie.Need-read-short-requires
+read-short-requires c κs = search needs
 
 enum-known-n : tie.Need-enum-known-n
 enum-known-n c = search needs
@@ -18,12 +18,12 @@ returns : tie.Need-returns
 returns c =
     let a = c .before .before .before .before .before .args in
     let n = c .before .n .given in
-    sym (taken-value (a .s .now) (a .at) (n .0 .0) (n .0 .1 .0) (sym (c .before .before .before .read .ensures) ∙ n .1))
+    sym (taken-value (a .s .now) (a .at) (n .0 .0) (n .0 .1 .0) (sym (c .before .before .before .read-short .ensures) ∙ n .1))
 
 returns-2 : tie.Need-returns-2
 returns-2 c =
     let a = c .before .before .before .before .args in
-    sym (taken-refused (a .s .now) (a .at) (sym (c .before .before .read .ensures) ∙ c .enum-told .given .1))
+    sym (taken-refused (a .s .now) (a .at) (sym (c .before .before .read-short .ensures) ∙ c .enum-told .given .1))
 
 pub number-at-spec : {M : Type 1} → statement M
-number-at-spec = tie.close (tie.spec read-requires enum-known-n enum-told returns returns-2)
+number-at-spec = tie.close (tie.spec read-short-requires enum-known-n enum-told returns returns-2)

@@ -1,4 +1,4 @@
--- The proof of the cycle of calls {read_long}. The measure is `most`: each turn of the code is one step of `decode`. The product fits, since the
+-- The proof of the cycle of calls {read}. The measure is `most`: each turn of the code is one step of `decode`. The product fits, since the
 -- number behind a first byte is below 128 ^ 3. Assumes nothing.
 use Prim.Native.Nat.{ℕ, _+_, _-_, _^_, _<_}
 use native.Mathlib.Omega.{arith}
@@ -8,11 +8,11 @@ use Rattle.leb128.specs.declared.Number.the-variants.{Value}
 use Rattle.leb128.proofs.Steps.{read-none, read-end, read-last, read-refused, read-long, read-value, read-bound}
 use borrow.Fn.Kinds.{In}
 use borrow.Fn.PlainCycle.{Measures, is, falls, and}
-use Rattle.leb128.proofs.read_long.Reads as read
-use Rattle.leb128.proofs.read_long.Kinds as read-kinds
-use Rattle.leb128.proofs.+read_long.Lts-read_long as read-lts
-use Rattle.leb128.proofs.+read_long.{statement}
-use Rattle.leb128.proofs.+read_long.Tie.{close}
+use Rattle.leb128.proofs.read.Reads as read
+use Rattle.leb128.proofs.read.Kinds as read-kinds
+use Rattle.leb128.proofs.+read.Lts-read as read-lts
+use Rattle.leb128.proofs.+read.{statement}
+use Rattle.leb128.proofs.+read.Tie.{close}
 
 abbrev μ-read : Measures 1 read-kinds.ps ℕ
 μ-read κs a = a .1 .1 .0
@@ -51,14 +51,14 @@ read-returns-3 t c =
     let a = e .before .before .before .args in
     sym (read-last _ (a .s .now) (a .at) (omega arith) (e .if2 .left) (c .if3 .taken))
 
-read-add-read : (t : ℕ) → read-lts.Need-add-read-long (read-below t, read.Post) (read-at t) read.Post
+read-add-read : (t : ℕ) → read-lts.Need-add-read (read-below t, read.Post) (read-at t) read.Post
 read-add-read t c = omega arith
 
-read-sub-read : (t : ℕ) → read-lts.Need-sub-read-long (read-below t, read.Post) (read-at t) read.Post
+read-sub-read : (t : ℕ) → read-lts.Need-sub-read (read-below t, read.Post) (read-at t) read.Post
 read-sub-read t c = omega arith
 
 read-read-requires :
-    (t : ℕ) → read-lts.Need-read-long-requires (read-below t, read.Post) (read-at t) read.Post
+    (t : ℕ) → read-lts.Need-read-requires (read-below t, read.Post) (read-at t) read.Post
 read-read-requires t c κs = omega arith
 
 read-enum-known-rest :
@@ -70,7 +70,7 @@ read-found :
     (t : ℕ) (c : read-lts.After-rest (read-below t, read.Post) (read-at t) read.Post) →
     let a = c .before .before .before .before .before .before .before .before .args in
     readAt (a .most - 1) (a .s .now) (a .at + 1) ≡ Value (c .rest .given .0 .0) (c .rest .given .0 .1 .0)
-read-found t c = sym (c .before .before .read-long .ensures) ∙ c .rest .given .1
+read-found t c = sym (c .before .before .read .ensures) ∙ c .rest .given .1
 
 read-found-bound :
     (t : ℕ) (c : read-lts.After-rest (read-below t, read.Post) (read-at t) read.Post) →
@@ -114,10 +114,10 @@ read-returns-6 t c =
     let e = c .before .before .before .before .before in
     let a = e .before .before .before .args in
     sym (read-refused (a .most) (a .s .now) (a .at) (e .before .if1 .left) (e .if2 .left) (c .before .before .before .if3 .left)
-    (sym (c .before .before .read-long .ensures) ∙ c .enum-told .given .1))
+    (sym (c .before .before .read .ensures) ∙ c .enum-told .given .1))
 
-pub +read-long-spec : {M : Type 1} → statement M
-+read-long-spec =
+pub +read-spec : {M : Type 1} → statement M
++read-spec =
     close
     μ-read
     λ t. read-lts.spec
