@@ -4,7 +4,7 @@ use Prim.Native.Nat.{ℕ, suc, _-_}
 use native.Mathlib.Nat.{zero-add}
 use native.Mathlib.Omega.{arith}
 use mathlib.Core.Path.{_≡_, refl, sym, ap, ap₂, subst, _∙_, fun-ext}
-use mathlib.Core.Bool.{true, false, cond, not, _&&_, _||_}
+use mathlib.Core.Bool.{true, false, cond, not, _&&_, _||_, or-true}
 use mathlib.Core.List.{List}
 use lib.Dec.{eqb}
 use lib.ListN.{length, getD}
@@ -15,7 +15,6 @@ use Rattle.optimum.specs.Lowest.{fresh, labelled, matched, labelTree, mateSearc
 use Rattle.search.specs.State.{matesOf, stateOf, Swept}
 use Rattle.search.specs.SpareSteps.{state-spare}
 use Rattle.search.specs.ExploreSteps.{below-same, taken-same}
-use Rattle.matching.specs.AugmentSteps.{or-true}
 use Rattle.labels.specs.Store.{Store, labelsOf, Sized, Filled, SparesFilled, Relabelled, MateSwept, TreeLabelled, SpareLabelled}
 
 -- Both kinds of label written.

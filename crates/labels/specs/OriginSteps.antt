@@ -6,7 +6,7 @@ use native.Mathlib.Numerals.{add-one}
 use native.Mathlib.Omega.{arith}
 use mathlib.Core.Path.{_≡_, refl, sym, ap, ap₂, _∙_, fun-ext}
 use mathlib.Core.Logic.{_⊎_, inl, inr}
-use mathlib.Core.Bool.{Bool, true, false, cond, _&&_, _||_}
+use mathlib.Core.Bool.{Bool, true, false, cond, _&&_, _||_, or-false}
 use mathlib.Core.List.{List}
 use lib.Dec.{leb, ltb, eqb, eqb·suc-zero, eqb·suc-suc, eqb·zero-suc}
 use lib.ListN.{getD, replicate, length-replicate}
@@ -21,7 +21,6 @@ use Rattle.optimum.specs.Lowest.{Labels, unlabelled, matched, labelTree, labelS
 use Rattle.search.specs.State.{matesOf, Below, Suits}
 use Rattle.search.specs.ExploreSteps.{below-same}
 use Rattle.matching.specs.Progress.{costAt, Holds}
-use Rattle.matching.specs.AugmentSteps.{or-false}
 use Rattle.labels.specs.Store.{Store, store, labelsOf, Sized, TreeLabelled, SpareLabelled, Labellable, Labelled, treeNext, matchedBelow}
 
 -- Is there a hit below one more?

@@ -8,8 +8,9 @@ use lib.Dec.{ltb}
 use lib.ListN.{length, getD}
 use Rattle.bits.specs.Bit.{bit}
 use Rattle.sets.specs.Sets.{member}
-use Rattle.optimum.specs.Search.{Problem, Progress, augment, matching}
-use Rattle.search.specs.State.{matesOf, Below, Taken, Rows}
+use Rattle.optimum.specs.Search.{Problem, search, Progress, augment, matching}
+use Rattle.search.specs.State as S
+use Rattle.search.specs.State.{matesOf, stateOf, Below, Taken, Rows}
 
 -- The mates, and the ranks that searches which failed have seen.
 abbrev pub progressOf : List ℕ → ℕ → List ℕ → Progress
@@ -33,6 +34,25 @@ pub record Holds (p : Problem) (spares : ℕ) (cost ts ss rows : List ℕ) : Typ
 -- The goal is worth a search from tree rank t: there is one, and it costs less.
 abbrev pub gain : ℕ → List ℕ → List ℕ → List ℕ → ℕ → ℕ → Bool
 gain spares cost ts ss t goal = ltb goal spares && ltb (costAt cost ss goal) (costAt cost ts t)
+
+-- What matching tree rank t to a goal needs: the goal has not been seen.
+pub record Seekable (t goal : ℕ) (mates taken seen : List ℕ) : Type 0 where
+  pub ready : S.Ready t taken mates seen
+  pub taken-length : length taken ≡ 4
+  pub within : goal < 256
+  pub unseen : member seen goal ≡ false
+
+-- What it leaves: sizes, the model's state, and the mates as they were if the goal was not met.
+pub record Sought (t goal : ℕ) (rows mates : List ℕ) (trees : ℕ) (seen mates′ taken′ : List ℕ) (trees′ : ℕ) (seen′ : List ℕ) (met : Bool) : Type 0 where
+  pub mates-length : length mates′ ≡ 256
+  pub taken-length : length taken′ ≡ 4
+  pub seen-length : length seen′ ≡ 4
+  pub below : (n : ℕ) → t < n → Below n mates → Below n mates′
+  pub taken-are : Taken mates′ taken′
+  pub same : met ≡ false → matesOf mates′ ≡ matesOf mates
+  pub equal :
+      (p : Problem) → Rows p rows → Below (p .trees) mates → t < p .trees
+      → stateOf mates′ trees′ seen′ met ≡ search p goal t (stateOf mates trees seen false)
 
 -- What matching one more tree rank needs.
 pub record Ready (t spares : ℕ) (ts ss mates taken dead : List ℕ) : Type 0 where

@@ -4,7 +4,7 @@ use ids::TreeRank;
 ghost use mathlib.Core.Path.{_≡_};
 ghost use Prim.Native.Nat.{_<_, _≤_};
 ghost use lib.ListN.{getD};
-ghost use Rattle.matching.specs.Progress.{Ready, Augmented, Buildable, Built, Edges, gain};
+ghost use Rattle.matching.specs.Progress.{Seekable, Sought, Ready, Augmented, Buildable, Built, Edges, gain};
 
 // Is there a goal, and does it cost less than tree rank `t`?
 fn gains(
@@ -26,8 +26,28 @@ fn gains(
     cost[e as usize] < cost[f as usize]
 }
 
-// Matches tree rank `t`, if the cheapest unmatched spare rank that alternating paths lead to costs less; else leaves
-// what the search has seen marked for good.
+// Matches tree rank `t` along an alternating path to the goal, if one leads there. Was the goal met?
+fn seek(
+    t: TreeRank,
+    goal: SpareRank,
+    rows: &[u64; 256],
+    mates: &mut [u32; 256],
+    taken: &mut [u64; 4],
+    tree_seen: &mut u64,
+    spare_seen: &mut [u64; 4],
+) -> bool
+    requires { ⌜ Seekable (t .0) (goal .0) (now mates) (now taken) (now «spare_seen») ⌝ }
+    ensures { λ r. ⌜ Sought (t .0) (goal .0) (now (rows .entry)) (now (mates .entry)) (now («tree_seen» .entry)) (now («spare_seen» .entry)) (now (mates .exit)) (now (taken .exit)) (now («tree_seen» .exit)) (now («spare_seen» .exit)) r ⌝ }
+{
+    if search::try_tree(t, goal, rows, taken, mates, tree_seen, spare_seen) {
+        sets::insert(taken, goal.0);
+        return true;
+    }
+    false
+}
+
+// Matches tree rank `t`, if the cheapest unmatched spare rank that alternating paths lead to costs less. The cheapest of
+// all is tried first; if paths lead to none that gains, what the search has seen stays marked for good.
 fn augment(
     t: TreeRank,
     spares: u32,
@@ -43,23 +63,36 @@ fn augment(
     requires { ⌜ Ready (t .0) spares (now ts) (now ss) (now mates) (now taken) (now «spare_dead») ⌝ }
     ensures { λ r. ⌜ Augmented (t .0) spares (now (cost .entry)) (now (ts .entry)) (now (ss .entry)) (now (rows .entry)) (now (mates .entry)) (now («tree_dead» .entry)) (now («spare_dead» .entry)) (now (mates .exit)) (now (taken .exit)) (now («tree_dead» .exit)) (now («spare_dead» .exit)) ⌝ }
 {
+    let cheapest = sets::lowest_open(spare_dead, taken);
+    if !gains(t, SpareRank(cheapest), spares, cost, ts, ss) {
+        return;
+    }
     let mut tree_seen = *tree_dead;
     let mut spare_seen = *spare_dead;
-    search::explore(t, rows, taken, mates, &mut tree_seen, &mut spare_seen);
+    if seek(
+        t,
+        SpareRank(cheapest),
+        rows,
+        mates,
+        taken,
+        &mut tree_seen,
+        &mut spare_seen,
+    ) {
+        return;
+    }
     let goal = sets::lowest_fresh(&spare_seen, spare_dead, taken);
     if gains(t, SpareRank(goal), spares, cost, ts, ss) {
         tree_seen = *tree_dead;
         spare_seen = *spare_dead;
-        search::try_tree(
+        seek(
             t,
             SpareRank(goal),
             rows,
-            taken,
             mates,
+            taken,
             &mut tree_seen,
             &mut spare_seen,
         );
-        sets::insert(taken, goal);
         return;
     }
     *tree_dead = tree_seen;

@@ -83,18 +83,41 @@ pub record Progress : Type 0 where
 abbrev pub begun : Progress → Search
 begun pr = record { mates = pr .mates; treeSeen = pr .treeDead; spareSeen = pr .spareDead; met = false }
 
--- The lowest unmatched non-tree rank that a search has visited and no failed one had before.
+-- The lowest open non-tree rank: unmatched, and no failed search has visited it.
+abbrev pub cheapestOf : Problem → Progress → ℕ
+cheapestOf p pr = first (p .spares) (λ s. not (pr .spareDead s) && eqb (pr .mates s) 0)
+
+-- The lowest open rank that a search has visited.
 abbrev pub goalOf : Problem → Progress → Search → ℕ
 goalOf p pr st = first (p .spares) (λ s. st .spareSeen s && not (pr .spareDead s) && eqb (pr .mates s) 0)
 
--- Tree rank t is matched if the cheapest unmatched non-tree edge that alternating paths lead to costs less than it.
+-- The goal is worth a search from tree rank t: there is one, and it costs less.
+abbrev pub worth : Problem → ℕ → ℕ → Bool
+worth p t goal = ltb goal (p .spares) && ltb (p .spareCost goal) (p .treeCost t)
+
+-- The goal was met: the search has turned the matching, and gives nothing up.
+abbrev pub turned : Progress → Search → Progress
+turned pr st = record { mates = st .mates; treeDead = pr .treeDead; spareDead = pr .spareDead }
+
+-- The search st has visited all that alternating paths from tree rank t lead to: t is matched if the cheapest open rank
+-- among it costs less; else all of it is given up.
+abbrev pub augmentReached : Problem → ℕ → Progress → Search → Progress
+augmentReached p t pr st =
+    let goal : ℕ = goalOf p pr st in
+    choose (worth p t goal)
+    (λ _. turned pr (search p goal t (begun pr)))
+    (λ _. record { mates = pr .mates; treeDead = st .treeSeen; spareDead = st .spareSeen })
+
+-- Tree rank t is matched if the cheapest open non-tree edge that alternating paths lead to costs less than it. The
+-- cheapest of all is tried first: if it costs too much, so do the others; if it is met, no other is cheaper.
 unfoldable pub augment : Problem → ℕ → Progress → Progress
 augment p t pr =
-    let all : Search = search p (p .spares) t (begun pr) in
-    let goal : ℕ = goalOf p pr all in
-    choose (ltb goal (p .spares) && ltb (p .spareCost goal) (p .treeCost t))
-    (λ _. record { mates = search p goal t (begun pr) .mates; treeDead = pr .treeDead; spareDead = pr .spareDead })
-    (λ _. record { mates = pr .mates; treeDead = all .treeSeen; spareDead = all .spareSeen })
+    let cheapest : ℕ = cheapestOf p pr in
+    choose (worth p t cheapest)
+    (λ _.
+    let st : Search = search p cheapest t (begun pr) in
+    choose (st .met) (λ _. turned pr st) (λ _. augmentReached p t pr st))
+    (λ _. pr)
 
 -- The matching: every tree rank in turn.
 abbrev pub matching : Problem → Mates

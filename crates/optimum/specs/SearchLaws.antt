@@ -413,6 +413,13 @@ module _
         record { trees = λ x q. q; spares = λ x q. q; mates = λ x q. refl; ahead = f; unmet = h }
         (omega arith)
 
+    -- A search that does not meet its goal explores all; one that does turns the matching along a path to it.
+    pub search-fails : (t : ℕ) → OnTree t → (goal < p .spares → start .spareSeen goal ≡ false) → start .met ≡ false → search p goal t start .met ≡ false → Explored p goal (start .mates) OnTree OnSpare start t (search p goal t start)
+    search-fails t o f h e = elim (search-ends t o f h) [ inl x ↦ x | inr x ↦ clash (x .0) e ]
+
+    pub search-turns : (t : ℕ) → OnTree t → (goal < p .spares → start .spareSeen goal ≡ false) → start .met ≡ false → search p goal t start .met ≡ true → AugmentingPath p goal (start .mates) (start .mates) t (search p goal t start .mates)
+    search-turns t o f h e = elim (search-ends t o f h) [ inl x ↦ clash e (x .grown .unmet) | inr x ↦ x .1 ]
+
     -- A search without a goal explores all.
     pub search-explores : (t : ℕ) → OnTree t → start .met ≡ false → goal ≡ p .spares → Explored p goal (start .mates) OnTree OnSpare start t (search p goal t start)
     search-explores t o h e = all (search-ends t o (λ l. absurd (omega arith)) h)
@@ -428,9 +435,9 @@ Always i = Unit {0}
 pub kept-always : (p : Problem) (start : Search) → Kept p start Always Always
 kept-always p start = record { to-spare = λ t s l o c f. tt; to-mate = λ s t l o e f. tt }
 
--- What the search without a goal visits, the search for it meets.
-pub search-meets : (p : Problem) (start : Search) → ((s t : ℕ) → s < p .spares → start .mates s ≡ suc t → t < p .trees) → start .met ≡ false → (t goal : ℕ) → search p (p .spares) t start .spareSeen goal ≡ true → start .spareSeen goal ≡ false → AugmentingPath p goal (start .mates) (start .mates) t (search p goal t start .mates)
-search-meets p start below unmet t goal h f = at-end (search-ends p goal start Always Always (kept-always p start) below t tt (λ _. f) unmet)
+-- What a search that fails visits, the search for it meets.
+pub search-meets : (p : Problem) (start : Search) → ((s t : ℕ) → s < p .spares → start .mates s ≡ suc t → t < p .trees) → start .met ≡ false → (t other goal : ℕ) → (other < p .spares → start .spareSeen other ≡ false) → search p other t start .met ≡ false → search p other t start .spareSeen goal ≡ true → start .spareSeen goal ≡ false → AugmentingPath p goal (start .mates) (start .mates) t (search p goal t start .mates)
+search-meets p start below unmet t other goal a n h f = at-end (search-ends p goal start Always Always (kept-always p start) below t tt (λ _. f) unmet)
   where
     out : Search
     out = search p goal t start
@@ -453,5 +460,5 @@ search-meets p start below unmet t goal h f = at-end (search-ends p goal start A
     at-end : Visited p goal (start .mates) Always Always start t out → AugmentingPath p goal (start .mates) (start .mates) t (out .mates)
     at-end (inr x) = x .1
     at-end (inl e) =
-        let all : Explored p (p .spares) (start .mates) OnTree OnSpare start t (search p (p .spares) t start) = search-explores p (p .spares) start OnTree OnSpare record { to-spare = λ x s l o c a. (o s l c, a); to-mate = to-mate e } below t (e .closed .tried) unmet refl in
+        let all : Explored p other (start .mates) OnTree OnSpare start t (search p other t start) = search-fails p other start OnTree OnSpare record { to-spare = λ x s l o c a. (o s l c, a); to-mate = to-mate e } below t (e .closed .tried) a unmet n in
         elim (all .grown .new-spare goal h) [ inl k ↦ clash k f | inr c ↦ absurd (missed e (c .holds)) ]

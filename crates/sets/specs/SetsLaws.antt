@@ -124,9 +124,9 @@ module _ (a b c d : ℕ) where
       first-clear (member four) 4 (clear-more (member four) 3 d (member-word four 3) (clear-three p q r) s)
 
 -- The first member of a set whose digits, word by word, are those of four words.
-module _ (a b c d : ℕ) (P : ℕ → ℕ → Bool) (in-a : (j : ℕ) → bit a j ≡ P 0 j) (in-b : (j : ℕ) → bit b j ≡ P 1 j)
-    (in-c : (j : ℕ) → bit c j ≡ P 2 j) (in-d : (j : ℕ) → bit d j ≡ P 3 j) where
-  words : (k : ℕ) → k < 4 → (j : ℕ) → bit (getD (four a b c d) k 0) j ≡ P k j
+module _ (a b c d : ℕ) (P : ℕ → ℕ → Bool) (in-a : (j : ℕ) → j < 64 → bit a j ≡ P 0 j) (in-b : (j : ℕ) → j < 64 → bit b j ≡ P 1 j)
+    (in-c : (j : ℕ) → j < 64 → bit c j ≡ P 2 j) (in-d : (j : ℕ) → j < 64 → bit d j ≡ P 3 j) where
+  words : (k : ℕ) → k < 4 → (j : ℕ) → j < 64 → bit (getD (four a b c d) k 0) j ≡ P k j
   words zero l = in-a
   words (suc zero) l = in-b
   words (suc (suc zero)) l = in-c
@@ -136,7 +136,7 @@ module _ (a b c d : ℕ) (P : ℕ → ℕ → Bool) (in-a : (j : ℕ) → bit a 
   first-of-words : first 256 (member (four a b c d)) ≡ first 256 (λ s. P (s / 64) (s % 64))
   unfolding member
   first-of-words =
-      first-same 256 (member (four a b c d)) (λ s. P (s / 64) (s % 64)) (λ s l. words (s / 64) (omega arith) (s % 64))
+      first-same 256 (member (four a b c d)) (λ s. P (s / 64) (s % 64)) (λ s l. words (s / 64) (omega arith) (s % 64) (omega arith))
 
 or-false : (b : Bool) → (b || false) ≡ b
 or-false true = refl
@@ -217,7 +217,8 @@ pub first-unseen : (rows : List ℕ) (t : ℕ) (seen : List ℕ) (a b c d : ℕ)
     → first 256 (member (a ∷ b ∷ c ∷ d ∷ [])) ≡ first 256 (λ s. inRow rows t s && not (member seen s))
 unfolding inRow member
 first-unseen rows t seen a b c d in-a in-b in-c in-d =
-    first-of-words a b c d (λ k j. bit (getD rows (4 * t + k) 0) j && not (bit (getD seen k 0) j)) (rw add-zero in-a) in-b in-c in-d
+    first-of-words a b c d (λ k j. bit (getD rows (4 * t + k) 0) j && not (bit (getD seen k 0) j))
+    (λ j _. rw add-zero (in-a j)) (λ j _. in-b j) (λ j _. in-c j) (λ j _. in-d j)
 
 -- The first member of `seen` that is neither in `dead` nor in `taken`.
 pub first-fresh : (seen dead taken : List ℕ) (a b c d : ℕ)
@@ -227,8 +228,20 @@ pub first-fresh : (seen dead taken : List ℕ) (a b c d : ℕ)
     → ((j : ℕ) → bit d j ≡ (bit (getD seen 3 0) j && not (bit (getD dead 3 0) j) && not (bit (getD taken 3 0) j)))
     → first 256 (member (a ∷ b ∷ c ∷ d ∷ [])) ≡ first 256 (λ s. member seen s && not (member dead s) && not (member taken s))
 unfolding member
-first-fresh seen dead taken a b c d =
+first-fresh seen dead taken a b c d in-a in-b in-c in-d =
     first-of-words a b c d (λ k j. bit (getD seen k 0) j && not (bit (getD dead k 0) j) && not (bit (getD taken k 0) j))
+    (λ j _. in-a j) (λ j _. in-b j) (λ j _. in-c j) (λ j _. in-d j)
+
+-- The first number that is neither in `dead` nor in `taken`.
+pub first-open : (dead taken : List ℕ) (a b c d : ℕ)
+    → ((j : ℕ) → j < 64 → bit a j ≡ (not (bit (getD dead 0 0) j) && not (bit (getD taken 0 0) j)))
+    → ((j : ℕ) → j < 64 → bit b j ≡ (not (bit (getD dead 1 0) j) && not (bit (getD taken 1 0) j)))
+    → ((j : ℕ) → j < 64 → bit c j ≡ (not (bit (getD dead 2 0) j) && not (bit (getD taken 2 0) j)))
+    → ((j : ℕ) → j < 64 → bit d j ≡ (not (bit (getD dead 3 0) j) && not (bit (getD taken 3 0) j)))
+    → first 256 (member (a ∷ b ∷ c ∷ d ∷ [])) ≡ first 256 (λ s. not (member dead s) && not (member taken s))
+unfolding member
+first-open dead taken a b c d =
+    first-of-words a b c d (λ k j. not (bit (getD dead k 0) j) && not (bit (getD taken k 0) j))
 
 -- Every word of `seen` gains what is in the row and not in `taken`.
 pub free-added : (rows : List ℕ) (t : ℕ) (taken seen : List ℕ) (a b c d : ℕ) → length seen ≡ 4
@@ -241,7 +254,7 @@ pub free-added : (rows : List ℕ) (t : ℕ) (taken seen : List ℕ) (a b c d : 
 unfolding inRow member
 free-added rows t taken (v ∷ w ∷ x ∷ y ∷ []) a b c d e in-a in-b in-c in-d s l =
     words a b c d (λ k j. bit (getD (v ∷ w ∷ x ∷ y ∷ []) k 0) j || (bit (getD rows (4 * t + k) 0) j && not (bit (getD taken k 0) j)))
-    (rw add-zero in-a) in-b in-c in-d (s / 64) (omega arith) (s % 64)
+    (λ j _. rw add-zero (in-a j)) (λ j _. in-b j) (λ j _. in-c j) (λ j _. in-d j) (s / 64) (omega arith) (s % 64) (omega arith)
 free-added rows t taken [] a b c d e in-a in-b in-c in-d s l = absurd (omega arith)
 free-added rows t taken (v ∷ []) a b c d e in-a in-b in-c in-d s l = absurd (omega arith)
 free-added rows t taken (v ∷ w ∷ []) a b c d e in-a in-b in-c in-d s l = absurd (omega arith)

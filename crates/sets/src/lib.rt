@@ -116,3 +116,22 @@ pub fn lowest_fresh(seen: &[u64; 4], dead: &[u64; 4], taken: &[u64; 4]) -> u32
         fresh(seen[3], dead[3], taken[3]),
     )
 }
+
+// The numbers below 64 that are in neither word.
+fn neither(dead: u64, taken: u64) -> u64
+    ensures { λ r. ⌜ ((j : ℕ) → j < 64 → bit r j ≡ (not (bit dead j) && not (bit taken j))) ⌝ }
+{
+    bits::less(!dead, taken)
+}
+
+// The lowest number that is neither in `dead` nor in `taken`; 256 if there is none.
+pub fn lowest_open(dead: &[u64; 4], taken: &[u64; 4]) -> u32
+    ensures { λ r. ⌜ r ≡ first 256 (λ s. not (member (now (dead .entry)) s) && not (member (now (taken .entry)) s)) ⌝ }
+{
+    lowest_of(
+        neither(dead[0], taken[0]),
+        neither(dead[1], taken[1]),
+        neither(dead[2], taken[2]),
+        neither(dead[3], taken[3]),
+    )
+}
