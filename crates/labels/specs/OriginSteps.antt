@@ -211,6 +211,8 @@ module _ (trees spares : ℕ) (cost ts ss rows taken mates₀ : List ℕ) (b : S
   labelling-end z =
       record {
         mates-length = h .sized .mates-length;
+        tree-length = h .sized .tree-length;
+        spare-length = h .sized .spare-length;
         below = h .below;
         same = h .same;
         tree-labels = λ p e q t. ap (λ (l : Labels). l .treeLabel t) (whole p e q);

@@ -113,6 +113,8 @@ pub record Labellable (trees spares : ℕ) (ts ss taken mates tree-label spare-l
 -- What it leaves: the model's labels, and the mates as they were.
 pub record Labelled (trees spares : ℕ) (cost ts ss rows mates mates′ tree-label spare-label : List ℕ) : Type 0 where
   pub mates-length : length mates′ ≡ 256
+  pub tree-length : length tree-label ≡ 64
+  pub spare-length : length spare-label ≡ 256
   pub below : Below trees mates′
   pub same : matesOf mates′ ≡ matesOf mates
   pub tree-labels :

@@ -16,7 +16,7 @@ pub mod ListJobLaws
 pub mod ListAcceptLaws
 pub mod ListAskedLaws
 pub mod Solving
-pub mod WidenLaws
+pub mod CostLaws
 pub mod SolveLaws
 pub mod JobsRead
 pub mod JobReadLaws

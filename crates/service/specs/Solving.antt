@@ -15,11 +15,6 @@ use Rattle.search.specs.State.{matesOf, Below, Taken}
 use Rattle.matching.specs.Progress.{Edges, Holds}
 use Rattle.service.specs.Accepting.{Held}
 
--- The first 64 places of one array in another of 256 places.
-pub record Widened (label wide : List ℕ) : Type 0 where
-  pub same : (k : ℕ) → k < 64 → getD wide k 0 ≡ getD label k 0
-  pub places : length wide ≡ 256
-
 -- What placing new costs needs: a matching and the set of its spare ranks, ranks that name edges, and an array of zeros.
 pub record Costable (trees spares : ℕ) (ts ss taken mates costs : List ℕ) : Type 0 where
   pub few-trees : trees ≤ 64

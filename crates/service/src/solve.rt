@@ -1,19 +1,7 @@
 // Finds the best costs of an accepted job that is held in arrays: the matching, the lowest new costs, the pairs.
 ghost use mathlib.Core.Path.{_≡_};
 ghost use lib.ListN.{length};
-ghost use Rattle.service.specs.Solving.{Widened, Costable, Costed, Solvable, SolvedAs};
-
-// The labels of the tree ranks, in an array as long as the others.
-fn widen(label: &[u32; 64], wide: &mut [u32; 256])
-    requires { ⌜ length (now wide) ≡ 256 ⌝ }
-    ensures { λ r. ⌜ Widened (now (label .entry)) (now (wide .exit)) ⌝ }
-{
-    let mut k: usize = 0;
-    while k < 64 {
-        wide[k] = label[k];
-        k += 1;
-    }
-}
+ghost use Rattle.service.specs.Solving.{Costable, Costed, Solvable, SolvedAs};
 
 // The lowest new costs of the matching in `mates`, put at their links.
 fn new_costs(
@@ -44,9 +32,7 @@ fn new_costs(
         &mut tree_label,
         &mut spare_label,
     );
-    let mut wide = [0u32; 256];
-    widen(&tree_label, &mut wide);
-    solution::place(ts, trees as usize, &wide, costs);
+    solution::place(ts, trees as usize, &tree_label, costs);
     solution::place(ss, spares, &spare_label, costs);
 }
 

@@ -66,8 +66,9 @@ pub fn fill_rows(
 }
 
 // Puts each rank's label at its edge.
-pub fn place(ranks: &[u32; 256], count: usize, label: &[u32; 256], costs: &mut [u32; 256])
+pub fn place(ranks: &[u32; 256], count: usize, label: &[u32], costs: &mut [u32; 256])
     requires ranks { ⌜ Ranks count (now ranks) ⌝ }
+    requires labels { ⌜ count ≤ length (now label) ⌝ }
     requires length { ⌜ length (now costs) ≡ 256 ⌝ }
     ensures costs { λ r. ⌜ (λ e. getD (now (costs .exit)) e 0) ≡ place (take count (now (ranks .entry))) (λ k. getD (now (label .entry)) k 0) (λ e. getD (now (costs .entry)) e 0) ⌝ }
     ensures length { λ r. ⌜ length (now (costs .exit)) ≡ 256 ⌝ }

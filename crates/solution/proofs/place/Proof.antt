@@ -20,7 +20,7 @@ abbrev μ-loop : tie.MeasureT-loop
 loop-holds : tie.Need-loop-holds Inv-loop μ-loop
 loop-holds c =
     let a = c .args in
-    (omega arith, c .pre .1, place-start (a .ranks .now) (a .label .now) (a .count) _)
+    (omega arith, c .pre .1 .1, place-start (a .ranks .now) (a .label .now) (a .count) _)
 
 mul-e : tie.Need-mul-e Inv-loop μ-loop
 mul-e c = omega arith
@@ -34,8 +34,8 @@ cast-e c = omega (arith, c .before .before .before .pre .0 .edges (c .before .be
 mul-costs : tie.Need-mul-costs Inv-loop μ-loop
 mul-costs c = omega arith
 
-element-copy-out-costs : tie.Need-element-copy-out-costs Inv-loop μ-loop
-element-copy-out-costs c = omega arith
+shared-slice-read-costs : tie.Need-shared-slice-read-costs Inv-loop μ-loop
+shared-slice-read-costs c = omega arith
 
 mul-costs-2 : tie.Need-mul-costs-2 Inv-loop μ-loop
 mul-costs-2 c = omega (arith, c .before .before .before .before .pre .0 .edges (c .before .before .before .loop .k) (omega arith))
@@ -78,7 +78,7 @@ place-spec =
     element-copy-out-e
     cast-e
     mul-costs
-    element-copy-out-costs
+    shared-slice-read-costs
     mul-costs-2
     element-write-costs
     add-k

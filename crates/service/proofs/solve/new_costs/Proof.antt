@@ -2,7 +2,7 @@
 use mathlib.Core.Path.{refl, ap, _∙_}
 use native.Mathlib.Omega.{arith}
 use lib.ListN.{length}
-use Rattle.service.specs.WidenLaws.{costed}
+use Rattle.service.specs.CostLaws.{costed}
 use Rattle.job.specs.Held.{zero-at, length-zeros}
 use borrow.Author.Needs.{needs}
 use Rattle.service.proofs.solve.new_costs.Statement.{statement}
@@ -28,30 +28,48 @@ label-requires c κs =
       no-spare = λ s. zero-at 256 s;
     }
 
-widen-requires : tie.Need-widen-requires
-widen-requires c κs = refl
+slice-aggregate-place : tie.Need-slice-aggregate-place
+slice-aggregate-place c = search needs
 
 place-requires : tie.Need-place-requires
 place-requires c κs =
-    let q = c .before .before .before .before .before .before .before .before .before .pre in
-    (record { places = q .tree-places; most = omega (arith, q .few-trees); edges = q .tree-edges }, ap length (q .empty) ∙ length-zeros 256)
+    let l = c .before .before in
+    let q = l .before .before .before .before .pre in
+    (
+      record { places = q .tree-places; most = omega (arith, q .few-trees); edges = q .tree-edges },
+      (omega (arith, q .few-trees, l .label .ensures .tree-length), ap length (q .empty) ∙ length-zeros 256),
+    )
+
+slice-aggregate-place-2 : tie.Need-slice-aggregate-place-2
+slice-aggregate-place-2 c = search needs
 
 place-requires-2 : tie.Need-place-requires-2
 place-requires-2 c κs =
-    let q = c .before .before .before .before .before .before .before .before .before .before .before .before .pre in
-    (record { places = q .spare-places; most = q .few-spares; edges = q .spare-edges }, c .before .before .place .ensures .1)
+    let p = c .before .before in
+    let l = p .before .before .before in
+    let q = l .before .before .before .before .pre in
+    (
+      record { places = q .spare-places; most = q .few-spares; edges = q .spare-edges },
+      (omega (arith, q .few-spares, l .label .ensures .spare-length), p .place .ensures .1),
+    )
 
 returns : tie.Need-returns
 returns c =
     let p = c .before .before .before in
-    let w = p .before .before .before in
-    let l = w .before .before .before in
+    let l = p .before .before .before in
     let st = l .before .before .before .before in
     let a = st .args in
-    costed (a .trees) (a .spares) (a .cost .now) (a .ts .now) (a .ss .now) (a .rows .now) (a .mates .now) (l .label .last .1 .1 .1 .1 .1 .1 .1 .0) (l .label .last .1 .1 .1 .1 .1 .1 .1 .1 .0) (l .label .last .1 .1 .1 .1 .1 .1 .1 .1 .1 .0) (w .widen .last .1 .0) (a .costs .now) (p .place .last .1 .1 .1 .0) (c .place2 .last .1 .1 .1 .0)
-    (st .pre .few-trees) (l .label .ensures) (w .widen .ensures) (st .pre .empty) (p .place .ensures .0) (c .place2 .ensures .0)
+    costed (a .trees) (a .spares) (a .cost .now) (a .ts .now) (a .ss .now) (a .rows .now) (a .mates .now) (l .label .last .1 .1 .1 .1 .1 .1 .1 .0) (l .label .last .1 .1 .1 .1 .1 .1 .1 .1 .0) (l .label .last .1 .1 .1 .1 .1 .1 .1 .1 .1 .0) (a .costs .now) (p .place .last .1 .1 .1 .0) (c .place2 .last .1 .1 .1 .0)
+    (l .label .ensures) (st .pre .empty) (p .place .ensures .0) (c .place2 .ensures .0)
 
 pub new-costs-spec : {M : Type 1} → statement M
 new-costs-spec =
     tie.close
-    (tie.spec cast-label label-requires widen-requires place-requires place-requires-2 returns)
+    (tie.spec
+    cast-label
+    label-requires
+    slice-aggregate-place
+    place-requires
+    slice-aggregate-place-2
+    place-requires-2
+    returns)
