@@ -3,7 +3,7 @@
 use Prim.Native.Nat.{ℕ}
 use native.Mathlib.Decide.{ℕ-discrete}
 use mathlib.Core.Path.{_≡_, refl, sym, _∙_, fun-ext}
-use mathlib.Core.Bool.{Bool, true, false, cond, not, xor, _&&_, _||_}
+use mathlib.Core.Bool.{Bool, true, false, cond, not, xor, _&&_, _||_, and-false, and-true}
 use lib.Dec.{eqb}
 use borrow.Author.Tests.{eq-eqb, ne-eqb}
 use Rattle.loops.specs.Loop.{put}
@@ -23,14 +23,6 @@ xor-false : (b : Bool) → xor b false ≡ b
 unfolding xor
 xor-false true = refl
 xor-false false = refl
-
-and-false : (b : Bool) → (b && false) ≡ false
-and-false true = refl
-and-false false = refl
-
-and-true : (b : Bool) → (b && true) ≡ b
-and-true true = refl
-and-true false = refl
 
 module _ (S T : ℕ → Bool) (i : ℕ) where
   pub added : ((j : ℕ) → T j ≡ (S j || eqb i j)) → T ≡ put S i true

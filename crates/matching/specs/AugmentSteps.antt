@@ -4,7 +4,7 @@ use Prim.Native.Nat.{ℕ, _≤_, _<_}
 use native.Mathlib.Decide.{decLt}
 use native.Mathlib.Omega.{arith}
 use mathlib.Core.Path.{_≡_, refl, sym, ap, _∙_}
-use mathlib.Core.Bool.{Bool, true, false, not, _&&_}
+use mathlib.Core.Bool.{Bool, true, false, not, _&&_, Bool·not-not}
 use mathlib.Core.List.{List}
 use lib.Dec.{ltb, eqb}
 use lib.ListN.{getD}
@@ -35,10 +35,6 @@ module _ (p : Problem) (t : ℕ) (pr : Progress) where
   reached-off : (st : Search) → worth p t (goalOf p pr st) ≡ false
       → augmentReached p t pr st ≡ record { mates = pr .mates; treeDead = st .treeSeen; spareDead = st .spareSeen }
   reached-off st h = rw h
-
-not-not : (b : Bool) → not (not b) ≡ b
-not-not true = refl
-not-not false = refl
 
 -- A goal that is worth it is a spare rank.
 gain-within : (t goal spares : ℕ) (cost ts ss : List ℕ) → gain spares cost ts ss t goal ≡ true → goal < spares
@@ -105,7 +101,7 @@ module _
     cheapest-first = rw lowest (first-is 256 (λ s. not (member dead s) && not (member taken s)))
 
     cheapest-same : (s : ℕ) → s < 256 → (not (member dead s) && not (member taken s)) ≡ (not (member dead s) && eqb (getD mates s 0) 0)
-    cheapest-same s k = rw (r .taken-are s k, not-not (eqb (getD mates s 0) 0))
+    cheapest-same s k = rw (r .taken-are s k, Bool·not-not (eqb (getD mates s 0) 0))
 
     -- Even the cheapest costs too much, or there is none.
     pub augmented-none : gain spares cost ts ss t c ≡ false → Out mates taken trees dead
@@ -179,7 +175,7 @@ module _
               goal-same : (s : ℕ) → s < 256
                   → (member dead₁ s && not (member dead s) && not (member taken₁ s)) ≡ (member dead₁ s && not (member dead s) && eqb (getD mates s 0) 0)
               goal-same s k =
-                  rw (first-search .taken-are s k, not-not (eqb (getD mates₁ s 0) 0), ap (λ (f : Mates). f s) same)
+                  rw (first-search .taken-are s k, Bool·not-not (eqb (getD mates₁ s 0) 0), ap (λ (f : Mates). f s) same)
 
               failed : (p : Problem) → Holds p spares cost ts ss rows → Below (p .trees) mates → t < p .trees
                   → augment p t pr ≡ augmentReached p t pr (stateOf mates₁ trees₁ dead₁ false)

@@ -8,7 +8,7 @@ use native.Mathlib.Decide.{decLt, ℕ-discrete}
 use native.Mathlib.Omega.{arith}
 use mathlib.Core.Path.{_≡_, refl, sym, ap, _∙_, fun-ext}
 use mathlib.Core.Logic.{inl, inr}
-use mathlib.Core.Bool.{Bool, true, false, not, _&&_, _||_}
+use mathlib.Core.Bool.{Bool, true, false, not, _&&_, _||_, Bool·not-not}
 use mathlib.Core.List.{List}
 use lib.Dec.{ltb, eqb}
 use lib.ListN.{length, getD, set, length-set}
@@ -55,10 +55,6 @@ still-not-fresh : (c v v′ : Bool) → (c && not v) ≡ false → (v ≡ true �
 still-not-fresh true true v′ h k = k refl
 still-not-fresh true false v′ h k = clash refl h
 still-not-fresh false v v′ h k = refl
-
-not-not : (b : Bool) → not (not b) ≡ b
-not-not true = refl
-not-not false = refl
 
 taken-left : (v c k : Bool) → c ≡ true → (v || (c && not k)) ≡ false → k ≡ true
 taken-left v c true e h = refl
@@ -177,7 +173,7 @@ module _
         → member spares₀ s ≡ (member spares s || (ltb s (p .spares) && p .covers t s && eqb (getD mates s 0) 0))
     free-same p r l s =
         elim (decLt s 256) [
-          | yes k ↦ en .free s k ∙ rw (en .taken-are s k, not-not (eqb (getD mates s 0) 0)) (elim (decLt s (p .spares)) [
+          | yes k ↦ en .free s k ∙ rw (en .taken-are s k, Bool·not-not (eqb (getD mates s 0) 0)) (elim (decLt s (p .spares)) [
             | yes m ↦ rw (lt-ltb s (p .spares) m, r .covered t s l m)
             | no m ↦ rw (le-ltb s (p .spares) (omega arith), r .past t s l (omega arith) k)
           ])

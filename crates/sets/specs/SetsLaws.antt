@@ -6,7 +6,7 @@ use native.Mathlib.Decide.{decLt, ℕ-discrete}
 use native.Mathlib.Omega.{arith}
 use mathlib.Core.Path.{_≡_, refl, sym, ap, ap₂, subst, _∙_}
 use mathlib.Core.Logic.{_≢_}
-use mathlib.Core.Bool.{Bool, true, false, not, _&&_, _||_}
+use mathlib.Core.Bool.{Bool, true, false, not, _&&_, _||_, or-false}
 use mathlib.Core.List.{List, [], _∷_}
 use lib.ListN.{length, getD, set, replicate, length-replicate, getD-replicate, List·getD-eq-default}
 use lib.Seq.{getD-set-same, getD-set-other}
@@ -137,10 +137,6 @@ module _ (a b c d : ℕ) (P : ℕ → ℕ → Bool) (in-a : (j : ℕ) → j < 64
   unfolding member
   first-of-words =
       first-same 256 (member (four a b c d)) (λ s. P (s / 64) (s % 64)) (λ s l. words (s / 64) (omega arith) (s % 64) (omega arith))
-
-or-false : (b : Bool) → (b || false) ≡ b
-or-false true = refl
-or-false false = refl
 
 -- Two tests at once.
 both-same : {a b c d : ℕ} → a ≡ b → c ≡ d → (eqb a b && eqb c d) ≡ true

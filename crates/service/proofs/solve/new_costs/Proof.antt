@@ -34,8 +34,7 @@ slice-aggregate-place c = search needs
 place-requires : tie.Need-place-requires
 place-requires c κs =
     let l = c .before .before in
-    let q = l .before .before .before .before .pre in
-    (
+    let q = l .before .before .before .before .pre in (
       record { places = q .tree-places; most = omega (arith, q .few-trees); edges = q .tree-edges },
       (omega (arith, q .few-trees, l .label .ensures .tree-length), ap length (q .empty) ∙ length-zeros 256),
     )
@@ -47,8 +46,7 @@ place-requires-2 : tie.Need-place-requires-2
 place-requires-2 c κs =
     let p = c .before .before in
     let l = p .before .before .before in
-    let q = l .before .before .before .before .pre in
-    (
+    let q = l .before .before .before .before .pre in (
       record { places = q .spare-places; most = q .few-spares; edges = q .spare-edges },
       (omega (arith, q .few-spares, l .label .ensures .spare-length), p .place .ensures .1),
     )
