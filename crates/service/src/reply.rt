@@ -50,11 +50,12 @@ pub fn answer_held(
         &mut pair_tree,
         &mut pair_spare,
     );
+    let new: &[u32; 256] = &costs;
     answer::write::write_answer(
         0,
         s.steps,
         edges,
-        &costs,
+        new,
         s.count,
         &pair_tree,
         &pair_spare,
