@@ -33,7 +33,7 @@ fn write_costs(area: &mut [u8], at: usize, edges: usize, costs: &[u32; 256]) -> 
     let mut next = at;
     let mut e: usize = 0;
     while e < edges {
-        next = leb128::write(area, next, costs[e], 2);
+        next = leb128::write_short(area, next, costs[e]);
         e += 1;
     }
     next

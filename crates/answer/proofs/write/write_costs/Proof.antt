@@ -25,14 +25,14 @@ loop-holds : tie.Need-loop-holds Inv-loop μ-loop
 unfolding gather flatMap
 loop-holds c = (omega arith, record { next = omega arith; area = refl })
 
-mul-write : tie.Need-mul-write Inv-loop μ-loop
-mul-write c = omega arith
+mul-write-short : tie.Need-mul-write-short Inv-loop μ-loop
+mul-write-short c = omega arith
 
-element-copy-out-write : tie.Need-element-copy-out-write Inv-loop μ-loop
-element-copy-out-write c = omega arith
+element-copy-out-write-short : tie.Need-element-copy-out-write-short Inv-loop μ-loop
+element-copy-out-write-short c = omega arith
 
-write-requires : tie.Need-write-requires Inv-loop μ-loop
-write-requires c κs =
+write-short-requires : tie.Need-write-short-requires Inv-loop μ-loop
+write-short-requires c κs =
     let l = c .before .before .before in
     let a = l .before .before .args in
     put-room _ _ _ _ _ _ (l .loop .inv .1)
@@ -50,8 +50,8 @@ loop-again c =
     let l = w .before .before .before .before in
     let a = l .before .before .args in (
       omega arith,
-      subst (λ (bytes : List ℕ). Put (a .area .now) (a .at) bytes (w .write .result) (w .write .last .0)) (sym (costs-more (a .costs .now) (l .loop .e)))
-          (put-more _ _ _ _ _ _ _ _ (l .loop .inv .1) (w .write .ensures .0) (w .write .ensures .1)),
+      subst (λ (bytes : List ℕ). Put (a .area .now) (a .at) bytes (w .write-short .result) (w .write-short .last .0)) (sym (costs-more (a .costs .now) (l .loop .e)))
+          (put-more _ _ _ _ _ _ _ _ (l .loop .inv .1) (w .write-short .ensures .0) (w .write-short .ensures .1)),
     )
 
 same-length : tie.Need-same-length Inv-loop μ-loop
@@ -70,9 +70,9 @@ write-costs-spec =
     Inv-loop
     μ-loop
     loop-holds
-    mul-write
-    element-copy-out-write
-    write-requires
+    mul-write-short
+    element-copy-out-write-short
+    write-short-requires
     add-e
     loop-less
     loop-again
