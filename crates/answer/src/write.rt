@@ -18,7 +18,7 @@ fn costs_size(edges: usize, costs: &[u32; 256]) -> usize
     let mut size: usize = 0;
     let mut e: usize = 0;
     while e < edges {
-        size += leb128::size(costs[e], 2);
+        size += leb128::size_short(costs[e]);
         e += 1;
     }
     size
@@ -48,7 +48,7 @@ fn pairs_size(count: usize, pair_tree: &[u32; 64], pair_spare: &[u32; 64]) -> us
     let mut size: usize = 0;
     let mut i: usize = 0;
     while i < count {
-        size += leb128::size(pair_tree[i], 2) + leb128::size(pair_spare[i], 2);
+        size += leb128::size_short(pair_tree[i]) + leb128::size_short(pair_spare[i]);
         i += 1;
     }
     size
@@ -91,7 +91,7 @@ pub fn answer_size(
 {
     leb128::size(steps, 3)
         + costs_size(edges, costs)
-        + leb128::size(count as u32, 2)
+        + leb128::size_short(count as u32)
         + pairs_size(count, pair_tree, pair_spare)
 }
 

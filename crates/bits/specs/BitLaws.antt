@@ -1,4 +1,4 @@
--- Laws of `bit`: of the operations on words, of a single digit, and of the lowest set digit.
+-- Laws of `bit`: of the operations on words, of a single digit, and of the lowest and the highest set digit.
 -- Assumes nothing.
 use Prim.Native.Nat.{ℕ, zero, suc, _+_, _-_, _*_, _/_, _%_, _^_, _≤_, _<_, min, max}
 use native.Mathlib.Nat.{pow-suc, mul-comm, one-mul, div-one, div-div-eq-div-mul}
@@ -7,15 +7,15 @@ use native.Mathlib.Omega.{arith}
 use mathlib.Core.Path.{_≡_, refl, sym, ap, _∙_}
 use mathlib.Core.Logic.{_⊎_, inl, inr}
 use mathlib.Core.Bool.{Bool, true, false, not, xor, _&&_, _||_}
-use lib.Bits.{bitAnd, bitOr, bitXor, and-step, or-step, xor-step, and-mask}
+use lib.Bits.{bitAnd, bitOr, bitXor, and-step, or-step, xor-step, and-mask, and-le-r}
 use lib.Bits
-use lib.Count.{trailingZeros, under}
-use lib.Pow.{shl-exact}
-use lib.Dec.{lit<, eqb, eqb·zero-suc, eqb·suc-zero, eqb·suc-suc}
-use borrow.Author.Tests.{ne-eqb}
-use Rattle.loops.specs.Loop.{first}
+use lib.Count.{trailingZeros, leadingZeros, leading-top, under}
+use lib.Pow.{pow-pos, shl-exact}
+use lib.Dec.{lit<, ltb, eqb, eqb·zero-suc, eqb·suc-zero, eqb·suc-suc}
+use borrow.Author.Tests.{ne-eqb, lt-ltb, le-ltb}
+use Rattle.loops.specs.Loop.{first, last}
 use Rattle.loops.specs.TestLaws.{truth}
-use Rattle.loops.specs.FirstLaws.{First, first-is, first-found}
+use Rattle.loops.specs.FirstLaws.{First, first-is, first-found, Last, last-is, last-found}
 use Rattle.bits.specs.Bit.{bit}
 
 -- The digit of a truth value.
@@ -111,8 +111,11 @@ bit-power (suc j) zero = ap (λ x. bit x zero) (double j) ∙ bit-low (2 ^ j) fa
 bit-power (suc j) (suc i) = ap (λ x. bit x (suc i)) (double j) ∙ bit-high (2 ^ j) false i ∙ bit-power j i ∙ sym (eqb·suc-suc j i)
 
 -- A word of k digits with 1 shifted up to digit i.
+one-shifted : (k i : ℕ) → i < k → (1 * 2 ^ i) % 2 ^ k ≡ 2 ^ i
+one-shifted k i l = shl-exact 1 i k (lit< tt) (omega arith) ∙ one-mul (2 ^ i)
+
 pub bit-single : (k i j : ℕ) → i < k → bit ((1 * 2 ^ i) % 2 ^ k) j ≡ eqb i j
-bit-single k i j l = ap (λ x. bit x j) (shl-exact 1 i k (lit< tt) (omega arith) ∙ one-mul (2 ^ i)) ∙ bit-power i j
+bit-single k i j l = ap (λ x. bit x j) (one-shifted k i l) ∙ bit-power i j
 
 -- Digit i, shifted down to the end.
 bit-shifted : (w i : ℕ) → bit w i ≡ eqb (w / 2 ^ i % 2) 1
@@ -165,6 +168,23 @@ pub bit-less : (k v w i : ℕ) → v < 2 ^ k → w < 2 ^ k → bit (bitAnd v ((2
 bit-less k v w i h l =
     bit-and v ((2 ^ k - 1) - w) i
     ∙ elim (decLt i k) [ yes m ↦ rw (bit-complement k w i l m) | no m ↦ rw (bit-past k v i h (omega arith)) ]
+
+-- One less has all the digits below i.
+bit-ones : (i j : ℕ) → bit (2 ^ i - 1) j ≡ ltb j i
+bit-ones i j =
+    elim (decLt j i) [
+      | yes l ↦ ap (λ x. bit x j) whole ∙ bit-complement i 0 j (pow-pos i) l ∙ rw (bit-zero j) (sym (lt-ltb j i l))
+      | no l ↦ bit-past i (2 ^ i - 1) j (omega (arith, pow-pos i)) (omega arith) ∙ sym (le-ltb j i (omega arith))
+    ]
+  where
+    whole : 2 ^ i - 1 ≡ (2 ^ i - 1) - 0
+    whole = omega arith
+
+pub one-above : (k i : ℕ) → i < k → 0 < (1 * 2 ^ i) % 2 ^ k
+one-above k i l = omega (arith, one-shifted k i l, pow-pos i)
+
+pub bit-below : (k i j : ℕ) → i < k → bit ((1 * 2 ^ i) % 2 ^ k - 1) j ≡ ltb j i
+bit-below k i j l = ap (λ x. bit (x - 1) j) (one-shifted k i l) ∙ bit-ones i j
 
 -- The lowest set digit.
 first-here : (k w : ℕ) → bit w zero ≡ true → first (suc k) (bit w) ≡ 0
@@ -245,3 +265,38 @@ cleared (suc k) w j h l =
 pub bit-cleared : (k w j : ℕ) → 0 < w → w < 2 ^ k → bit (bitAnd w (w - 1)) j ≡ (bit w j && not (eqb j (first k (bit w))))
 unfolding Cleared
 bit-cleared k w j h l = bit-and w (w - 1) j ∙ cleared k w j h l
+
+-- The highest set digit.
+bit-top : (j w : ℕ) → 2 ^ j ≤ w → w < 2 ^ suc j → bit w j ≡ true
+unfolding bit
+bit-top zero w l u = let e : w ≡ 1 = omega arith in rw e
+bit-top (suc j) w l u = bit-top j (w / 2) (omega (arith, pow-suc 2 j)) (omega (arith, pow-suc 2 (suc j)))
+
+pub leading-last : (k w : ℕ) → 0 < w → w < 2 ^ k → (leadingZeros k w < k) × (last k (bit w) k ≡ k - 1 - leadingZeros k w)
+leading-last k w l u =
+    let (j, e, low, high) = leading-top k w l u in (
+      omega arith,
+      last-found k (bit w) k (k - 1 - leadingZeros k w)
+          (rw (← place j e)
+          record {
+            within = omega arith;
+            hit = bit-top j w low high;
+            after = λ i a b. bit-past (suc j) w i high (omega arith);
+          }),
+    )
+  where
+    place : (j : ℕ) → leadingZeros k w + suc j ≡ k → j ≡ k - 1 - leadingZeros k w
+    place j e = omega arith
+
+pub last-set : (k w : ℕ) → 0 < w → w < 2 ^ k → Last k (bit w) (last k (bit w) k)
+last-set k w l u = elim (last-is k (bit w) k) [
+  | inl f ↦ f
+  | inr h ↦ absurd (omega (arith, bit-ext k w 0 u (omega arith) (λ i b. h .1 i b ∙ sym (bit-zero i))))
+]
+
+-- A set that lost its lowest member is a lesser number.
+pub fewer : (k w r : ℕ) → 0 < w → w < 2 ^ k → r < 2 ^ k → ((j : ℕ) → bit r j ≡ (bit w j && not (eqb j (first k (bit w))))) → r < w
+fewer k w r some word fits less =
+    let below : bitAnd w (w - 1) ≤ w - 1 = and-le-r w (w - 1) in
+    let same : r ≡ bitAnd w (w - 1) = bit-ext k r (bitAnd w (w - 1)) fits (omega arith) (λ j _. less j ∙ sym (bit-cleared k w j some word)) in
+    omega arith

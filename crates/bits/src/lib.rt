@@ -2,8 +2,8 @@
 ghost use mathlib.Core.Path.{_≡_};
 ghost use mathlib.Core.Bool.{not, xor, _&&_, _||_};
 ghost use Prim.Native.Nat.{ℕ, _<_};
-ghost use lib.Dec.{eqb};
-ghost use Rattle.loops.specs.Loop.{first};
+ghost use lib.Dec.{eqb, ltb};
+ghost use Rattle.loops.specs.Loop.{first, last};
 ghost use Rattle.bits.specs.Bit.{bit};
 
 // Is `i` a member?
@@ -20,6 +20,14 @@ pub fn with(w: u64, i: u32) -> u64
     ensures { λ r. ⌜ ((j : ℕ) → bit r j ≡ (bit w j || eqb i j)) ⌝ }
 {
     w | (1u64 << i)
+}
+
+// `w` without `i`.
+pub fn without(w: u64, i: u32) -> u64
+    requires { ⌜ i < 64 ⌝ }
+    ensures { λ r. ⌜ ((j : ℕ) → bit r j ≡ (bit w j && not (eqb i j))) ⌝ }
+{
+    w & !(1u64 << i)
 }
 
 // `w` with `i` put in if it is no member, and taken out if it is one.
@@ -58,11 +66,27 @@ pub fn less(v: u64, w: u64) -> u64
     v & !w
 }
 
+// The numbers below `i`.
+pub fn below(i: u32) -> u64
+    requires { ⌜ i < 64 ⌝ }
+    ensures { λ r. ⌜ ((j : ℕ) → bit r j ≡ ltb j i) ⌝ }
+{
+    (1u64 << i) - 1
+}
+
 // The lowest member; 64 if there is none.
 pub fn lowest(w: u64) -> u32
     ensures { λ r. ⌜ r ≡ first 64 (bit w) ⌝ }
 {
     u64::trailing_zeros(w)
+}
+
+// The highest member.
+pub fn highest(w: u64) -> u32
+    requires { ⌜ 0 < w ⌝ }
+    ensures { λ r. ⌜ r ≡ last 64 (bit w) 64 ⌝ }
+{
+    63 - u64::leading_zeros(w)
 }
 
 // `w` without its lowest member.

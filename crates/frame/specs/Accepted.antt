@@ -15,7 +15,7 @@ use Rattle.graph.specs.Graph.{Sound}
 use Rattle.frame.specs.Job.{Edge, Job, noEdge, link, maxNodes, maxEdges, maxNumber, fields, jobNumbers, jobFrame, graphOf, costOf}
 use Rattle.frame.specs.Questions.{jobFrom, jobOf, question6, ask, formRefusal, refusal}
 use Rattle.frame.specs.Services.{smallEdge, small, counted, listRefusal}
-use Rattle.frame.specs.Meaning.{Small, EndsHold, MarksHold, TreeHolds, Formed, FirstNo, Accepted}
+use Rattle.frame.specs.Meaning.{Small, EndsHold, TreeHolds, Formed, FirstNo, Accepted}
 use Rattle.frame.specs.Meaning.FirstNo.{no1, no2, no3, no4, no5, no6, none}
 use Rattle.frame.specs.Form.{ends-sound, question4-means, question5-means, question6-means, first-no, first-no-unique, form-refusal, beforeTree}
 use Rattle.frame.specs.RoundTrip.{job-numbers, formed, job-of, write-read}
@@ -137,12 +137,12 @@ refused6 s h = (
     passes (ns, f) e t =
         omega (arith, e, first-no-unique s 0 h (none ns f (subst TreeHolds (job-of s ns h (f .divides)) t)))
 
--- No cost of an accepted job is above 16,383.
+-- No cost is above 16,383 if no number of the job is.
 links-small : (ls : List Edge) → Small (flatMap fields ls) → (e : ℕ) → getD ls e noEdge .cost ≤ maxNumber
 unfolding flatMap
 links-small [] h e = omega arith
 links-small (l ∷ ls) h zero = h 2
 links-small (l ∷ ls) h (suc e) = links-small ls (λ i. h (suc (suc (suc (suc i))))) e
 
-pub cost-small : (j : Job) → Accepted j → (e : ℕ) → costOf j e ≤ maxNumber
-cost-small j a e = links-small (j .links) (λ i. a .small (suc (suc i))) e
+pub cost-small : (j : Job) → Small (jobNumbers j) → (e : ℕ) → costOf j e ≤ maxNumber
+cost-small j h e = links-small (j .links) (λ i. h (suc (suc i))) e

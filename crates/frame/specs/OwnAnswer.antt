@@ -73,10 +73,10 @@ module _ (j : Job) (accepted : Accepted j) where
   own-layout =
       record {
         joined = refl;
-        step-limit = omega (arith, steps-few own maxNumber (λ e l. cost-small j accepted e) 63 (omega (arith, accepted .tree .size, accepted .node-limit)));
+        step-limit = omega (arith, steps-few own maxNumber (λ e l. cost-small j (accepted .small) e) 63 (omega (arith, accepted .tree .size, accepted .node-limit)));
         small =
             small-append (answerOf j .costs) (length (answerOf j .pairs) ∷ flatMap both (answerOf j .pairs))
-            (small-places (answerOf j .costs) (λ i l. new-most (graphOf j) (λ e l. refl) (treeOf j) (costOf j) maxNumber (λ e l. cost-small j accepted e) i (omega (arith, own .count))))
+            (small-places (answerOf j .costs) (λ i l. new-most (graphOf j) (λ e l. refl) (treeOf j) (costOf j) maxNumber (λ e l. cost-small j (accepted .small) e) i (omega (arith, own .count))))
             (small-cons (length (answerOf j .pairs)) (flatMap both (answerOf j .pairs)) (omega (arith, few))
             (small-pairs (answerOf j .pairs) (λ p m. let is = own .matching .pairs p m in (omega (arith, is .tree-below, accepted .edge-limit), omega (arith, is .spare-below, accepted .edge-limit)))));
         count = own .count;

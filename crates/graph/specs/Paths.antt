@@ -1,11 +1,11 @@
--- The model of question 6 and of the judge: tree paths from node 0, found by sweeps over the tree edges, and the test
--- of every non-tree edge against the tree edges that it covers. Definitions only. Assumes nothing.
+-- The model of question 6 and of the judge: tree paths from node 0, found node by node, and the test of every
+-- non-tree edge against the tree edges that it covers. Definitions only. Assumes nothing.
 use Prim.Native.Nat.{ℕ, zero, suc}
 use mathlib.Core.Bool.{Bool, true, false, cond, not, xor, _&&_, _||_}
 use mathlib.Core.List.{List}
-use lib.Dec.{leb, eqb}
+use lib.Dec.{leb, ltb, eqb}
 use lib.ListN.{length, getD}
-use Rattle.loops.specs.Loop.{scan, choose, put, allBelow}
+use Rattle.loops.specs.Loop.{scan, choose, put, allBelow, first}
 use Rattle.graph.specs.Graph.{Graph, EdgeSet}
 use Rattle.graph.specs.Rank.{spareOf}
 
@@ -34,19 +34,31 @@ grow g ranks k st =
     let v : ℕ = g .end₂ (getD ranks k 0) in
     cond (st .reached u) (cond (st .reached v) st (attach u v k st)) (cond (st .reached v) (attach v u k st) st)
 
--- Every tree edge tried once, by rank.
-abbrev pub sweep : Graph → List ℕ → Rooted → Rooted
-sweep g ranks st = scan (grow g ranks) (length ranks) 0 st
+-- Node v is an end of the tree edge of rank k.
+abbrev pub touches : Graph → List ℕ → ℕ → ℕ → Bool
+touches g ranks v k = eqb (g .end₁ (getD ranks k 0)) v || eqb (g .end₂ (getD ranks k 0)) v
 
--- Sweeps until one reaches nothing new, at most `rounds` of them.
-unfoldable pub sweeps : Graph → List ℕ → ℕ → Rooted → Rooted
-sweeps g ranks zero st = st
-sweeps g ranks (suc rounds) st =
-    let next : Rooted = sweep g ranks st in
-    choose (eqb (next .found) (st .found)) (λ _. next) (λ _. sweeps g ranks rounds next)
+-- The tree edge of rank k tried, if it is at node v.
+abbrev pub tryAt : Graph → List ℕ → ℕ → ℕ → Rooted → Rooted
+tryAt g ranks v k st = cond (touches g ranks v k) (grow g ranks k st) st
+
+-- A node expanded: every tree edge at it tried, by rank.
+abbrev pub expand : Graph → List ℕ → ℕ → Rooted → Rooted
+expand g ranks v st = scan (tryAt g ranks v) (length ranks) 0 st
+
+-- Node v has been reached, but not expanded.
+abbrev pub waits : (ℕ → Bool) → Rooted → ℕ → Bool
+waits done st v = st .reached v && not (done v)
+
+-- The lowest node that waits is expanded, until none waits, at most `rounds` times.
+unfoldable pub expandAll : Graph → List ℕ → ℕ → (ℕ → Bool) → Rooted → Rooted
+expandAll g ranks zero done st = st
+expandAll g ranks (suc rounds) done st =
+    let v : ℕ = first (g .nodes) (waits done st) in
+    choose (ltb v (g .nodes)) (λ _. expandAll g ranks rounds (put done v true) (expand g ranks v st)) (λ _. st)
 
 abbrev pub rooted : Graph → List ℕ → Rooted
-rooted g ranks = sweeps g ranks (g .nodes) root
+rooted g ranks = expandAll g ranks (g .nodes) (λ _. false) root
 
 -- Question 6: are there (nodes − 1) tree edges, and do they join all nodes?
 abbrev pub isTree : Graph → List ℕ → Bool

@@ -4,19 +4,21 @@ use Prim.Native.Nat.{ℕ, zero, suc, _+_, _≤_, _<_}
 use native.Mathlib.Omega.{arith}
 use native.Mathlib.Decide.{ℕ-discrete}
 use mathlib.Core.Path.{_≡_, refl, sym, ap, _∙_}
-use mathlib.Core.Logic.{_↔_, _≢_, inl, inr}
-use mathlib.Core.Bool.{Bool, true, false, cond, not}
+use mathlib.Core.Logic.{_↔_, _≢_, _⊎_, inl, inr}
+use mathlib.Core.Bool.{Bool, true, false, cond, not, or-true}
 use mathlib.Core.List.{List}
-use lib.Dec.{eqb}
+use lib.Dec.{ltb, eqb}
 use lib.ListN.{length, getD}
 use lib.IntN.{pos}
-use borrow.Author.Tests.{eqb-true, eqb-false, eq-eqb, leb-true, le-leb, not-true}
-use Rattle.loops.specs.Loop.{scan, choose, put}
+use borrow.Author.Tests.{eqb-true, eq-eqb, ltb-true, ltb-false, leb-true, le-leb, not-true, not-false}
+use Rattle.loops.specs.Loop.{scan, put, first}
 use Rattle.loops.specs.PutLaws.{put-same, put-other, put-kept, put-split}
-use Rattle.loops.specs.TestLaws.{truth, clash, and-first, and-second, and-both, or-means, xor-means, all-at, all-of}
+use Rattle.loops.specs.ScanLaws.{scan-keeps}
+use Rattle.loops.specs.FirstLaws.{First, first-is}
+use Rattle.loops.specs.TestLaws.{truth, clash, cond-both, choose-both, and-first, and-second, and-both, and-miss, or-either, or-means, xor-means, all-at, all-of}
 use Rattle.graph.specs.Graph.{Graph, Sound, EdgeSet, Leads, forth, back, Joined, count, SpanningTree, Minimum, Covers}
 use Rattle.graph.specs.Rank.{spareOf, Lists}
-use Rattle.graph.specs.Paths.{Rooted, root, attach, grow, sweep, sweeps, rooted, isTree, coversRank, judge}
+use Rattle.graph.specs.Paths.{Rooted, root, attach, grow, touches, tryAt, expand, waits, expandAll, rooted, isTree, coversRank, judge}
 use Rattle.graph.specs.Integers.{pos-le, le-pos}
 use Rattle.graph.specs.CountLaws.{member-differs, count-put, count-none, count-all, count-below, count-full}
 use Rattle.graph.specs.Walks.{leads-back, joined-refl, joined-edge, joined-trans, joined-sym, walk-member}
@@ -133,11 +135,6 @@ module _ {g : Graph} (sound : Sound g) {tr : EdgeSet} {ranks : List ℕ} (lists 
   grown-step l (still p) h = h
   grown-step l (reaches way a b) h = grown-attach l way a b h
 
-  grown-scan : (turns i : ℕ) (st : Rooted) → i + turns ≤ length ranks → Grown g tr ranks st → Grown g tr ranks (scan (grow g ranks) turns i st)
-  unfolding scan
-  grown-scan zero i st l h = h
-  grown-scan (suc turns) i st l h = grown-scan turns (suc i) (grow g ranks i st) (omega arith) (grown-step (omega arith) (grew g ranks i st) h)
-
   grown-root : 1 ≤ g .nodes → Grown g tr ranks root
   grown-root l =
       record {
@@ -149,58 +146,124 @@ module _ {g : Graph} (sound : Sound g) {tr : EdgeSet} {ranks : List ℕ} (lists 
         ends = λ k b t. clash t refl;
       }
 
--- ---- the search ends when nothing new is reached
+-- ---- a node expanded
+
+-- Both ends of the tree edge of rank k have been reached.
+abbrev Both : Graph → List ℕ → ℕ → Rooted → Type 0
+Both g ranks k st = (st .reached (g .end₁ (getD ranks k 0)) ≡ true) × (st .reached (g .end₂ (getD ranks k 0)) ≡ true)
+
+module _ (g : Graph) (ranks : List ℕ) where
+  -- What has been reached stays so.
+  step-kept : (k w : ℕ) {st next : Rooted} → Grew g ranks k st next → st .reached w ≡ true → next .reached w ≡ true
+  step-kept k w (still p) h = h
+  step-kept k w {st} (reaches {v = v} way a b) h = put-kept (st .reached) v w h
+
+  leads-both : (k : ℕ) (st : Rooted) {u v : ℕ} → Leads g (getD ranks k 0) u v → st .reached u ≡ true → st .reached v ≡ true → Both g ranks k st
+  leads-both k st (forth p q) a b = rw (p, q) (a, b)
+  leads-both k st (back p q) a b = rw (p, q) (b, a)
+
+  -- A tree edge tried at a node that has been reached leads to its other end.
+  step-both : (k v : ℕ) {st next : Rooted} → Grew g ranks k st next → touches g ranks v k ≡ true → st .reached v ≡ true → Both g ranks k next
+  step-both k v {st} (still p) t h =
+      elim (or-either (eqb (g .end₁ (getD ranks k 0)) v) (eqb (g .end₂ (getD ranks k 0)) v) t) [
+        | inl e ↦ let r : st .reached (g .end₁ (getD ranks k 0)) ≡ true = rw (eqb-true (g .end₁ (getD ranks k 0)) v e) h in (r, sym p ∙ r)
+        | inr e ↦ let r : st .reached (g .end₂ (getD ranks k 0)) ≡ true = rw (eqb-true (g .end₂ (getD ranks k 0)) v e) h in (p ∙ r, r)
+      ]
+  step-both k v {st} (reaches {u} {v = w} way a b) t h = leads-both k (attach u w k st) way (put-kept (st .reached) w u a) (put-same (st .reached) w true)
+
+  module _ (v : ℕ) where
+    try-kept : (k w : ℕ) (st : Rooted) → st .reached w ≡ true → tryAt g ranks v k st .reached w ≡ true
+    try-kept k w st h = cond-both (λ (s : Rooted). s .reached w ≡ true) (touches g ranks v k) _ _ (λ _. step-kept k w (grew g ranks k st) h) (λ _. h)
+
+    scan-both : (k turns i : ℕ) (st : Rooted) → Both g ranks k st → Both g ranks k (scan (tryAt g ranks v) turns i st)
+    scan-both k turns i st both = scan-keeps _ (Both g ranks k) turns i st both (λ j s l m p. (try-kept j _ s (p .0), try-kept j _ s (p .1)))
+
+    -- All neighbours of an expanded node have been reached.
+    expand-both : (turns i : ℕ) (st : Rooted) → st .reached v ≡ true → (k : ℕ) → i ≤ k → k < i + turns → touches g ranks v k ≡ true → Both g ranks k (scan (tryAt g ranks v) turns i st)
+    unfolding scan
+    expand-both zero i st h k l m t = absurd (omega arith)
+    expand-both (suc turns) i st h k l m t =
+        elim (ℕ-discrete i k) [
+          | yes e ↦ scan-both k turns (suc i) _ (rw (e, t) (step-both k v (grew g ranks k st) t h))
+          | no d ↦ expand-both turns (suc i) _ (try-kept i v st h) k (omega arith) (omega arith) t
+        ]
+
+-- ---- the search ends when no node waits
 
 -- No tree edge leads out of what has been reached.
 abbrev Closed : Graph → List ℕ → Rooted → Type 0
 Closed g ranks st = (k : ℕ) → k < length ranks → st .reached (g .end₁ (getD ranks k 0)) ≡ st .reached (g .end₂ (getD ranks k 0))
 
-module _ {g : Graph} {ranks : List ℕ} where
-  step-more : {k : ℕ} {st next : Rooted} → Grew g ranks k st next → st .found ≤ next .found
-  step-more (still p) = omega arith
-  step-more (reaches way a b) = omega arith
+-- Every tree edge at a node that has been expanded has both ends reached.
+abbrev Expanded : Graph → List ℕ → (ℕ → Bool) → Rooted → Type 0
+Expanded g ranks done st = (v k : ℕ) → done v ≡ true → k < length ranks → touches g ranks v k ≡ true → Both g ranks k st
 
-  step-still : {k : ℕ} {st next : Rooted} → Grew g ranks k st next → next .found ≡ st .found → (next ≡ st) × (st .reached (g .end₁ (getD ranks k 0)) ≡ st .reached (g .end₂ (getD ranks k 0)))
-  step-still (still p) e = (refl, p)
-  step-still (reaches way a b) e = absurd (omega arith)
+module _ (g : Graph) (ranks : List ℕ) (k : ℕ) where
+  touches-first : touches g ranks (g .end₁ (getD ranks k 0)) k ≡ true
+  touches-first = rw (eq-eqb (g .end₁ (getD ranks k 0)) (g .end₁ (getD ranks k 0)) refl)
 
-module _ (g : Graph) (ranks : List ℕ) where
-  scan-more : (turns i : ℕ) (st : Rooted) → st .found ≤ scan (grow g ranks) turns i st .found
-  unfolding scan
-  scan-more zero i st = omega arith
-  scan-more (suc turns) i st = omega (arith, step-more (grew g ranks i st), scan-more turns (suc i) (grow g ranks i st))
-
-  -- A sweep that finds no node changes nothing, and no tree edge leads out.
-  scan-still : (turns i : ℕ) (st : Rooted) → scan (grow g ranks) turns i st .found ≡ st .found → (scan (grow g ranks) turns i st ≡ st) × ((k : ℕ) → i ≤ k → k < i + turns → st .reached (g .end₁ (getD ranks k 0)) ≡ st .reached (g .end₂ (getD ranks k 0)))
-  unfolding scan
-  scan-still zero i st e = (refl, λ k a b. absurd (omega arith))
-  scan-still (suc turns) i st e =
-      let next : Rooted = grow g ranks i st in
-      let (same, here) = step-still (grew g ranks i st) (omega (arith, step-more (grew g ranks i st), scan-more turns (suc i) next)) in
-      let (rest, later) = scan-still turns (suc i) next (e ∙ sym (ap (λ s. s .found) same)) in
-      (rest ∙ same, λ k a b. elim (ℕ-discrete k i) [ yes p ↦ rw p here | no d ↦ rw same at (later k (omega arith) (omega arith)) ])
+  touches-second : touches g ranks (g .end₂ (getD ranks k 0)) k ≡ true
+  touches-second = rw (eq-eqb (g .end₂ (getD ranks k 0)) (g .end₂ (getD ranks k 0)) refl) (or-true (eqb (g .end₁ (getD ranks k 0)) (g .end₂ (getD ranks k 0))))
 
 module _ {g : Graph} (sound : Sound g) {tr : EdgeSet} {ranks : List ℕ} (lists : Lists (g .edges) tr ranks) where
-  -- Every sweep but the last finds a node, so that the search ends within as many sweeps as there are nodes.
-  sweeps-end : (rounds : ℕ) (st : Rooted) → Grown g tr ranks st → g .nodes < st .found + rounds → Grown g tr ranks (sweeps g ranks rounds st) × Closed g ranks (sweeps g ranks rounds st)
-  unfolding sweeps
-  sweeps-end zero st h l = absurd (omega (arith, h .size, count-below (g .nodes) (st .reached)))
-  sweeps-end (suc rounds) st h l = cases (eqb (next .found) (st .found)) refl (λ m. sweeps-end rounds next grown m)
+  grown-expand : (v : ℕ) (st : Rooted) → Grown g tr ranks st → Grown g tr ranks (expand g ranks v st)
+  grown-expand v st h =
+      scan-keeps (tryAt g ranks v) (Grown g tr ranks) (length ranks) 0 st h
+      (λ k s l m p. cond-both (Grown g tr ranks) (touches g ranks v k) _ _ (λ _. grown-step sound lists (omega arith) (grew g ranks k s) p) (λ _. p))
+
+  expanded-more : (done : ℕ → Bool) (v : ℕ) (st : Rooted) → st .reached v ≡ true → Expanded g ranks done st → Expanded g ranks (put done v true) (expand g ranks v st)
+  expanded-more done v st r h w k d l t =
+      elim (put-split done v w d) [
+        | inl e ↦ expand-both g ranks v (length ranks) 0 st r k (omega arith) (omega arith) (rw e at t)
+        | inr o ↦ scan-both g ranks v k (length ranks) 0 st (h w k o l t)
+      ]
+
+  -- All nodes have been expanded.
+  all-closed : (done : ℕ → Bool) (st : Rooted) → Expanded g ranks done st → g .nodes ≤ count (g .nodes) done → Closed g ranks st
+  all-closed done st h full k l =
+      let e : ℕ = getD ranks k 0 in
+      let all : count (g .nodes) done ≡ g .nodes = omega (arith, count-below (g .nodes) done) in
+      let both : Both g ranks k st = h (g .end₁ e) k (count-full (g .nodes) done all (g .end₁ e) (sound .first e (lists .below k l))) l (touches-first g ranks k) in
+      both .0 ∙ sym (both .1)
+
+  -- No node waits.
+  none-closed : (done : ℕ → Bool) (st : Rooted) → Expanded g ranks done st → ((v : ℕ) → v < g .nodes → waits done st v ≡ false) → Closed g ranks st
+  none-closed done st h none k l = cases (truth (st .reached u)) (truth (st .reached v))
     where
-      next : Rooted
-      next = sweep g ranks st
+      u : ℕ
+      u = g .end₁ (getD ranks k 0)
 
-      grown : Grown g tr ranks next
-      grown = grown-scan sound lists (length ranks) 0 st (omega arith) h
+      v : ℕ
+      v = g .end₂ (getD ranks k 0)
 
-      cases : (b : Bool) → eqb (next .found) (st .found) ≡ b → (g .nodes < next .found + rounds → Grown g tr ranks (sweeps g ranks rounds next) × Closed g ranks (sweeps g ranks rounds next)) → Grown g tr ranks (choose b (λ _. next) (λ _. sweeps g ranks rounds next)) × Closed g ranks (choose b (λ _. next) (λ _. sweeps g ranks rounds next))
-      cases true e more =
-          let (same, closed) = scan-still g ranks (length ranks) 0 st (eqb-true (next .found) (st .found) e) in
-          (grown, rw same (λ k b. closed k (omega arith) (omega arith)))
-      cases false e more = more (omega (arith, scan-more g ranks (length ranks) 0 st, eqb-false (next .found) (st .found) e))
+      both : (w : ℕ) → w < g .nodes → touches g ranks w k ≡ true → st .reached w ≡ true → Both g ranks k st
+      both w b t r = h w k (not-false (done w) (and-miss (st .reached w) (not (done w)) (none w b) r)) l t
+
+      cases : (st .reached u ≡ true) ⊎ (st .reached u ≡ false) → (st .reached v ≡ true) ⊎ (st .reached v ≡ false) → st .reached u ≡ st .reached v
+      cases (inl p) q = p ∙ sym (both u (sound .first _ (lists .below k l)) (touches-first g ranks k) p .1)
+      cases (inr p) (inl q) = clash (both v (sound .second _ (lists .below k l)) (touches-second g ranks k) q .0) p
+      cases (inr p) (inr q) = p ∙ sym q
+
+  -- Every round expands one more node, so that the search ends within as many rounds as there are nodes.
+  expand-end :
+      (rounds : ℕ) (done : ℕ → Bool) (st : Rooted) → Grown g tr ranks st → Expanded g ranks done st → g .nodes ≤ count (g .nodes) done + rounds
+      → Grown g tr ranks (expandAll g ranks rounds done st) × Closed g ranks (expandAll g ranks rounds done st)
+  unfolding expandAll
+  expand-end zero done st grown h l = (grown, all-closed done st h (omega arith))
+  expand-end (suc rounds) done st grown h l =
+      let v : ℕ = first (g .nodes) (waits done st) in
+      let f : First (g .nodes) (waits done st) v = first-is (g .nodes) (waits done st) in
+      choose-both (λ (s : Rooted). Grown g tr ranks s × Closed g ranks s) (ltb v (g .nodes)) _ _
+      (λ t.
+      let b : v < g .nodes = ltb-true v (g .nodes) t in
+      let fresh : done v ≡ false = not-true (done v) (and-second (st .reached v) (not (done v)) (f .hit b)) in
+      expand-end rounds (put done v true) (expand g ranks v st) (grown-expand v st grown)
+      (expanded-more done v st (and-first (st .reached v) (not (done v)) (f .hit b)) h)
+      (omega (arith, rw fresh at (count-put (g .nodes) done v true b))))
+      (λ t. (grown, none-closed done st h (λ w b. f .before w (omega (arith, ltb-false v (g .nodes) t)))))
 
   rooted-end : 1 ≤ g .nodes → Grown g tr ranks (rooted g ranks) × Closed g ranks (rooted g ranks)
-  rooted-end l = sweeps-end _ root (grown-root sound lists l) (omega arith)
+  rooted-end l = expand-end _ (λ _. false) root (grown-root sound lists l) (λ v k d b t. clash d refl) (omega arith)
 
   -- ---- question 6
 

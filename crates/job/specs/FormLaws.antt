@@ -21,7 +21,7 @@ use Rattle.frame.specs.Form.{question2-means, question3-means}
 use Rattle.frame.specs.RoundTrip.{flatMap-append, length-links}
 use Rattle.job.specs.declared.read.Counts.{Counts}
 use Rattle.job.specs.declared.read.Header.{Header}
-use Rattle.job.specs.Reading.{Loaded, loadLinks, filled, firsts, seconds, marks, endsApart, endsHold, marksHold, countsOf, refusedCounts, header, headerOf}
+use Rattle.job.specs.Reading.{Divided, Loaded, loadLinks, filled, firsts, seconds, marks, endsApart, endsHold, marksHold, countsOf, refusedCounts, header, headerOf}
 use Rattle.job.specs.LoadLaws.{load-all}
 
 -- Questions 1 to 3 passed: what is known of the counts k.
@@ -127,6 +127,10 @@ column f z ls l e h k =
     List·getD-map f ls e noEdge
 
 module _ (s : List ℕ) (k : Counts) (p : Passed s k) where
+  -- Behind the two counts four numbers are left for each link.
+  pub links-left : (part : List ℕ) → part ≡ drop (k .behind) s → Divided part 0 (4 * k .edges)
+  links-left part e = record { ns = drop 2 (p .ns); enough = omega (arith, p .four); within = omega arith; rest = rw e (p .rest) }
+
   -- The links are read into their arrays.
   pub links-read : (part : List ℕ) → part ≡ drop (k .behind) s → (l : Loaded) → l .at ≡ 0 → loadLinks part (k .edges) l ≡ filled (jobOf s .links) 0 (length part) l
   links-read part e l z =

@@ -1,6 +1,7 @@
 -- What the functions on job frames compute, and laws that tie it to the frame's definitions.
 pub mod Reading
 pub mod ReadingLaws
+pub mod BlockLaws
 pub mod LoadLaws
 pub mod CountLaws
 pub mod FormLaws

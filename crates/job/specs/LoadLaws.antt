@@ -7,13 +7,15 @@ use mathlib.Core.List.{List, [], _∷_, _++_, map, flatMap}
 use lib.ListN.{length, set, drop, length-append, length-drop}
 use lib.Seq.{sets, drop-drop, drop-append-seam}
 use Rattle.loops.specs.Loop.{scan}
-use Rattle.leb128.specs.Number.{encode, decode}
-use Rattle.leb128.specs.Laws.{decode-encode}
+use Rattle.leb128.specs.Number.{encode, decode, readAt, Stands}
+use Rattle.leb128.specs.declared.Number.the-variants as Read
+use Rattle.leb128.specs.Laws.{decode-encode, encode-size-pos}
 use Rattle.frame.specs.Job.{Edge, maxNumber, numberBytes, bytesOf}
 use Rattle.frame.specs.Questions.{linksOf}
 use Rattle.frame.specs.Meaning.{Divides}
 use Rattle.job.specs.declared.read.Taken.{Taken}
-use Rattle.job.specs.Reading.{taken, takenAt, Loaded, loadLink, arrays, filled}
+use Rattle.job.specs.Reading.{taken, takenAt, Divided, Loaded, loadLink, arrays, filled}
+use Rattle.job.specs.ReadingLaws.{taken-value, taken-refused}
 
 -- Where the rest of a frame divides, its first number is what stands there, and what follows divides too.
 pub record Next (s ns : List ℕ) (v at : ℕ) : Type 0 where
@@ -35,6 +37,28 @@ next-number s ns v at l d =
       here = ap (λ (t : List ℕ). taken at (decode numberBytes t)) (sym whole) ∙ ap (taken at) (decode-encode numberBytes v (bytesOf ns) (omega arith) (omega (arith, d .small 0)));
       rest = record { small = λ i. d .small (suc i); joined = sym (drop-append-seam (encode numberBytes v) (bytesOf ns)) ∙ ap (drop size) whole ∙ drop-drop size at s };
     }
+
+-- Where numbers are left, one stands, and behind it the others are left.
+module _ (s : List ℕ) (at n : ℕ) where
+  pub divided-stands : Divided s at n → 0 < n → Stands numberBytes s at
+  divided-stands d l e = first (d .ns) (omega (arith, d .enough)) (d .rest)
+    where
+      first : (ns : List ℕ) → 0 < length ns → Divides (drop at s) ns → ⊥
+      first [] h r = omega arith
+      first (v ∷ ns) h r =
+          let one = next-number s ns v at (d .within) r in
+          let still : one .next ≡ at = ap (λ (t : Taken). t .next) (sym (one .here) ∙ taken-refused s at e) in
+          omega (arith, still, one .size, encode-size-pos 1 v)
+
+  pub divided-next : Divided s at n → (k v next : ℕ) → k < n → readAt numberBytes s at ≡ Read.Value v next → Divided s next k
+  divided-next d k v next l e = first (d .ns) (omega (arith, d .enough)) (d .rest)
+    where
+      first : (ns : List ℕ) → k < length ns → Divides (drop at s) ns → Divided s next k
+      first [] h r = absurd (omega arith)
+      first (w ∷ ns) h r =
+          let one = next-number s ns w at (d .within) r in
+          let there : next ≡ one .next = ap (λ (t : Taken). t .next) (sym (taken-value s at v next e) ∙ one .here) in
+          record { ns = ns; enough = omega arith; within = omega (arith, there, one .within); rest = rw there (one .rest) }
 
 load-step :
     (s ns : List ℕ) (a b c k i : ℕ) (l : Loaded) →

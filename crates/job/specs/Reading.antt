@@ -1,6 +1,6 @@
 -- What the functions that read a job frame compute. Definitions only. Assumes nothing.
-use Prim.Native.Nat.{ℕ, zero, suc, _+_}
-use mathlib.Core.Bool.{Bool, not, _&&_}
+use Prim.Native.Nat.{ℕ, zero, suc, _+_, _-_, _/_, _≤_}
+use mathlib.Core.Bool.{Bool, not, _&&_, _||_}
 use mathlib.Core.Path.{_≡_}
 use mathlib.Core.List.{List, map}
 use mathlib.Core.Option.{Option, some, none}
@@ -10,7 +10,8 @@ use lib.Seq.{sets}
 use Rattle.loops.specs.Loop.{scan, choose, allBelow, tabulate}
 use Rattle.leb128.specs.Number.{Decoded, decode}
 use Rattle.frame.specs.Job.{Edge, Job, numberBytes, bytesOf}
-use Rattle.frame.specs.Questions.{nodeCount, edgeCount, jobOf, question2, question3, formRefusal}
+use Rattle.frame.specs.Questions.{divide, nodeCount, edgeCount, jobOf, question2, question3, formRefusal}
+use Rattle.frame.specs.Meaning.{Divides}
 use Rattle.job.specs.declared.read.Taken.{Taken}
 use Rattle.job.specs.declared.read.Counts.{Counts}
 use Rattle.job.specs.declared.read.Header.{Header}
@@ -29,6 +30,32 @@ takenAt s at = taken at (decode numberBytes (drop at s))
 unfoldable pub countFrom : ℕ → Option (List ℕ) → Numbers
 countFrom n (some ns) = Count (n + length ns)
 countFrom n none = Refused
+
+-- The count at a position of a frame: what is still to be counted, added to n, is the whole.
+pub record Counting (s : List ℕ) (at n : ℕ) (whole : Numbers) : Type 0 where
+  pub fuel : ℕ
+  pub enough : length s - at ≤ fuel
+  pub few : n ≤ at
+  pub within : at ≤ length s
+  pub rest : countFrom n (divide fuel (drop at s)) ≡ whole
+
+-- May b stand behind a where numbers take one or two bytes? A byte from 128 on wants one of 1 to 127 behind it.
+abbrev pub mayFollow : ℕ → ℕ → Bool
+mayFollow a b = ltb a 128 || (not (eqb b 0) && ltb b 128)
+
+abbrev pub followed : List ℕ → ℕ → Bool
+followed s i = mayFollow (getD s i 0) (getD s (i + 1) 0)
+
+-- 1 for a byte behind which its number goes on, 0 for the last byte of a number.
+abbrev pub continued : List ℕ → ℕ → ℕ
+continued s i = getD s i 0 / 128
+
+-- From a position on a part of a frame divides into numbers, at least n of them.
+pub record Divided (s : List ℕ) (at n : ℕ) : Type 0 where
+  pub ns : List ℕ
+  pub enough : n ≤ length ns
+  pub within : at ≤ length s
+  pub rest : Divides (drop at s) ns
 
 -- The four arrays of links, and the position behind the last link read.
 pub record Loaded : Type 0 where
@@ -87,11 +114,17 @@ filled ls e at l =
 abbrev pub endsApart : ℕ → ℕ → ℕ → Bool
 endsApart n a b = ltb a n && ltb b n && not (eqb a b)
 
+abbrev pub apartAt : ℕ → List ℕ → List ℕ → ℕ → Bool
+apartAt n as₁ as₂ e = endsApart n (getD as₁ e 0) (getD as₂ e 0)
+
 abbrev pub endsHold : ℕ → ℕ → List ℕ → List ℕ → Bool
-endsHold n m as₁ as₂ = allBelow m λ e. endsApart n (getD as₁ e 0) (getD as₂ e 0)
+endsHold n m as₁ as₂ = allBelow m (apartAt n as₁ as₂)
+
+abbrev pub markedAt : List ℕ → ℕ → Bool
+markedAt as₄ e = leb (getD as₄ e 0) 1
 
 abbrev pub marksHold : ℕ → List ℕ → Bool
-marksHold m as₄ = allBelow m λ e. leb (getD as₄ e 0) 1
+marksHold m as₄ = allBelow m (markedAt as₄)
 
 -- Questions 1 to 3: the refusal, or the two counts and the position behind them.
 abbrev pub refusedCounts : ℕ → Counts

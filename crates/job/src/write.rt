@@ -14,7 +14,7 @@ use crate::read::marks_hold;
 fn link_size(a: u32, b: u32, c: u32, m: u32) -> usize
     ensures { λ r. ⌜ r ≡ length (linkBytes a b c m) ⌝ }
 {
-    leb128::size(a, 2) + leb128::size(b, 2) + leb128::size(c, 2) + leb128::size(m, 2)
+    leb128::size_short(a) + leb128::size_short(b) + leb128::size_short(c) + leb128::size_short(m)
 }
 
 // Puts a link's four numbers at a position and gives the position behind them.
@@ -183,8 +183,8 @@ pub fn write_job(
         };
     }
     let count = edges as u32;
-    let size = leb128::size(nodes, 2)
-        + leb128::size(count, 2)
+    let size = leb128::size_short(nodes)
+        + leb128::size_short(count)
         + links_size(edges, end1, end2, cost, mark);
     if area.len() < at {
         return Reply {

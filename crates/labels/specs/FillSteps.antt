@@ -69,9 +69,9 @@ module _ (word base x : ℕ) (label₀ : List ℕ) (left : ℕ) (label : List �
             small = l;
           }
 
--- The places of the labels below word k that are new.
+-- The places below word k that the set has lost.
 abbrev newBelow : List ℕ → List ℕ → ℕ → ℕ → Bool
-newBelow old new k s = ltb s (64 * k) && (member new s && not (member old s))
+newBelow old new k s = ltb s (64 * k) && (member old s && not (member new s))
 
 -- What the loop over the words keeps.
 pub record WordsFilled (x : ℕ) (old new label₀ : List ℕ) (k : ℕ) (label : List ℕ) : Type 0 where
@@ -84,17 +84,17 @@ words-start x old new label =
     record { within = omega arith; at = λ s. rw (le-ltb s (64 * 0) (omega arith)); size = refl }
 
 module _ (x : ℕ) (old new label₀ : List ℕ) (k : ℕ) (label : List ℕ) (h : WordsFilled x old new label₀ k label) where
-  pub words-end : length new ≡ 4 → 4 ≤ k → SparesFilled x old new label₀ label
+  pub words-end : length old ≡ 4 → 4 ≤ k → SparesFilled x old new label₀ label
   words-end l m =
       record {
         at = λ s. h .at s ∙ elim (decLt s (64 * k)) [
           | yes b ↦ rw (lt-ltb s (64 * k) b)
-          | no b ↦ rw (le-ltb s (64 * k) (omega arith), member-past new s (omega arith) (omega arith))
+          | no b ↦ rw (le-ltb s (64 * k) (omega arith), member-past old s (omega arith) (omega arith))
         ];
         size = h .size;
       }
 
-  module _ (w : ℕ) (small : w < 2 ^ 64) (less : (j : ℕ) → bit w j ≡ (bit (getD new k 0) j && not (bit (getD old k 0) j)))
+  module _ (w : ℕ) (small : w < 2 ^ 64) (less : (j : ℕ) → bit w j ≡ (bit (getD old k 0) j && not (bit (getD new k 0) j)))
       (label′ : List ℕ) (f : Filled w (64 * k) x label label′) where
     -- A place from word k on.
     at-word : (j : ℕ) → getD label′ (64 * k + j) 0 ≡ cond (newBelow old new (k + 1) (64 * k + j)) x (getD label₀ (64 * k + j) 0)

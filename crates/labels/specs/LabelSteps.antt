@@ -4,7 +4,7 @@ use Prim.Native.Nat.{ℕ, suc, _-_}
 use native.Mathlib.Nat.{zero-add}
 use native.Mathlib.Omega.{arith}
 use mathlib.Core.Path.{_≡_, refl, sym, ap, ap₂, subst, _∙_, fun-ext}
-use mathlib.Core.Bool.{true, false, cond, not, _&&_, _||_, or-true}
+use mathlib.Core.Bool.{Bool, true, false, cond, not, _&&_, or-true}
 use mathlib.Core.List.{List}
 use lib.Dec.{eqb}
 use lib.ListN.{length, getD}
@@ -14,16 +14,16 @@ use Rattle.optimum.specs.Search.{Problem, Search, seeSpare, search}
 use Rattle.optimum.specs.Lowest.{fresh, labelled, matched, labelTree, mateSearch, labelSpare}
 use Rattle.search.specs.State.{matesOf, stateOf, Swept}
 use Rattle.search.specs.SpareSteps.{state-spare}
-use Rattle.search.specs.ExploreSteps.{below-same, taken-same}
+use Rattle.search.specs.ExploreSteps.{below-same}
 use Rattle.labels.specs.Store.{Store, labelsOf, Sized, Filled, SparesFilled, Relabelled, MateSwept, TreeLabelled, SpareLabelled}
 
 -- Both kinds of label written.
-pub relabelled : (x old-trees : ℕ) (old-spares : List ℕ) (trees : ℕ) (spares tree-label spare-label tree-label′ spare-label′ : List ℕ)
+pub relabelled : (x old-trees : ℕ) (old-live : List ℕ) (trees : ℕ) (live tree-label spare-label tree-label′ spare-label′ : List ℕ)
     → length tree-label ≡ 64 → length spare-label ≡ 256
     → (w : ℕ) → ((j : ℕ) → bit w j ≡ (bit trees j && not (bit old-trees j)))
-    → Filled w 0 x tree-label tree-label′ → SparesFilled x old-spares spares spare-label spare-label′
-    → Relabelled x old-trees old-spares trees spares tree-label spare-label tree-label′ spare-label′
-relabelled x old-trees old-spares trees spares tree-label spare-label tree-label′ spare-label′ l m w less f g =
+    → Filled w 0 x tree-label tree-label′ → SparesFilled x old-live live spare-label spare-label′
+    → Relabelled x old-trees old-live trees live tree-label spare-label tree-label′ spare-label′
+relabelled x old-trees old-live trees live tree-label spare-label tree-label′ spare-label′ l m w less f g =
     record {
       tree-length = f .size ∙ l;
       spare-length = g .size ∙ m;
@@ -32,22 +32,28 @@ relabelled x old-trees old-spares trees spares tree-label spare-label tree-label
     }
 
 -- In the model.
-model-labelled : (x : ℕ) (b b′ : Store) → Relabelled x (b .trees) (b .spares) (b′ .trees) (b′ .spares) (b .tree-label) (b .spare-label) (b′ .tree-label) (b′ .spare-label)
-    → (st : Search) → stateOf (b′ .mates) (b′ .trees) (b′ .spares) false ≡ st → labelsOf b′ ≡ labelled x st (labelsOf b)
+model-labelled : (x : ℕ) (b b′ : Store) → Relabelled x (b .trees) (b .live) (b′ .trees) (b′ .live) (b .tree-label) (b .spare-label) (b′ .tree-label) (b′ .spare-label)
+    → (st : Search) → stateOf (b′ .mates) (b′ .trees) (b′ .live) false ≡ st → labelsOf b′ ≡ labelled x st (labelsOf b)
 model-labelled x b b′ h st e =
-    ap₂ (λ (f g : ℕ → ℕ). record { treeDone = bit (b′ .trees); spareDone = member (b′ .spares); treeLabel = f; spareLabel = g })
-    (fun-ext (h .at-tree)) (fun-ext (h .at-spare))
+    ap₂ (λ (f g : ℕ → ℕ). record { treeDone = bit (b′ .trees); spareDone = λ s. not (member (b′ .live) s); treeLabel = f; spareLabel = g })
+    (fun-ext (h .at-tree)) (fun-ext (λ s. h .at-spare s ∙ ap (λ z. cond z x (getD (b .spare-label) s 0)) (lost (member (b .live) s) (member (b′ .live) s))))
     ∙ ap (λ (z : Search). labelled x z (labelsOf b)) e
+  where
+    lost : (old new : Bool) → (old && not new) ≡ (not new && not (not old))
+    lost true true = refl
+    lost true false = refl
+    lost false true = refl
+    lost false false = refl
 
 -- The mate of a spare rank.
-module _ (s : ℕ) (rows mates : List ℕ) (trees : ℕ) (seen : List ℕ) where
-  stays : length mates ≡ 256 → length seen ≡ 4
-      → ((p : Problem) → mateSearch p s (getD mates s 0) (stateOf mates trees seen false) ≡ stateOf mates trees seen false)
-      → MateSwept s rows mates trees seen mates trees seen
+module _ (s : ℕ) (rows mates : List ℕ) (trees : ℕ) (live : List ℕ) where
+  stays : length mates ≡ 256 → length live ≡ 4
+      → ((p : Problem) → mateSearch p s (getD mates s 0) (stateOf mates trees live false) ≡ stateOf mates trees live false)
+      → MateSwept s rows mates trees live mates trees live
   stays l m h =
-      record { mates-length = l; seen-length = m; same = refl; equal = λ p q. sym (h p) }
+      record { mates-length = l; live-length = m; same = refl; equal = λ p q. sym (h p) }
 
-  pub mate-none : length mates ≡ 256 → length seen ≡ 4 → getD mates s 0 ≡ 0 → MateSwept s rows mates trees seen mates trees seen
+  pub mate-none : length mates ≡ 256 → length live ≡ 4 → getD mates s 0 ≡ 0 → MateSwept s rows mates trees live mates trees live
   unfolding mateSearch
   mate-none l m e = stays l m (λ p. rw e)
 
@@ -55,39 +61,39 @@ module _ (s : ℕ) (rows mates : List ℕ) (trees : ℕ) (seen : List ℕ) where
     mate-is : getD mates s 0 ≡ suc (getD mates s 0 - 1)
     mate-is = omega arith
 
-    mate-idle : (p : Problem) (u : ℕ) → getD mates s 0 ≡ suc u → bit trees u ≡ true → mateSearch p s (getD mates s 0) (stateOf mates trees seen false) ≡ stateOf mates trees seen false
+    mate-idle : (p : Problem) (u : ℕ) → getD mates s 0 ≡ suc u → bit trees u ≡ true → mateSearch p s (getD mates s 0) (stateOf mates trees live false) ≡ stateOf mates trees live false
     unfolding mateSearch
     mate-idle p u e h = rw (e, h)
 
-    mate-goes : (p : Problem) (u : ℕ) → getD mates s 0 ≡ suc u → bit trees u ≡ false → mateSearch p s (getD mates s 0) (stateOf mates trees seen false) ≡ search p (p .spares) u (stateOf mates trees seen false)
+    mate-goes : (p : Problem) (u : ℕ) → getD mates s 0 ≡ suc u → bit trees u ≡ false → mateSearch p s (getD mates s 0) (stateOf mates trees live false) ≡ search p (p .spares) u (stateOf mates trees live false)
     unfolding mateSearch
     mate-goes p u e h = rw (e, h)
 
-    pub mate-seen : length mates ≡ 256 → length seen ≡ 4 → bit trees (getD mates s 0 - 1) ≡ true → MateSwept s rows mates trees seen mates trees seen
+    pub mate-seen : length mates ≡ 256 → length live ≡ 4 → bit trees (getD mates s 0 - 1) ≡ true → MateSwept s rows mates trees live mates trees live
     mate-seen l m h = stays l m (λ p. mate-idle p (getD mates s 0 - 1) mate-is h)
 
-    pub mate-explored : bit trees (getD mates s 0 - 1) ≡ false → (mates′ : List ℕ) (trees′ : ℕ) (seen′ : List ℕ)
-        → Swept (getD mates s 0 - 1) rows mates trees seen mates′ trees′ seen′ → MateSwept s rows mates trees seen mates′ trees′ seen′
-    mate-explored h mates′ trees′ seen′ f =
+    pub mate-explored : bit trees (getD mates s 0 - 1) ≡ false → (mates′ : List ℕ) (trees′ : ℕ) (live′ : List ℕ)
+        → Swept (getD mates s 0 - 1) rows mates trees live mates′ trees′ live′ → MateSwept s rows mates trees live mates′ trees′ live′
+    mate-explored h mates′ trees′ live′ f =
         record {
           mates-length = f .mates-length;
-          seen-length = f .seen-length;
+          live-length = f .live-length;
           same = f .same;
           equal = λ p q. f .equal p q (omega (arith, q .below s)) ∙ sym (mate-goes p (getD mates s 0 - 1) mate-is h);
         }
 
 -- A tree rank as an origin.
-module _ (t x matchedSet : ℕ) (rows taken : List ℕ) (b : Store) where
-  tree-stays : Sized taken b
+module _ (t x matchedSet : ℕ) (rows : List ℕ) (b : Store) where
+  tree-stays : Sized b
       → ((p : Problem) → bit matchedSet t ≡ matched p (matesOf (b .mates)) t → labelTree p (matesOf (b .mates)) t (labelsOf b) ≡ labelsOf b)
-      → TreeLabelled t x matchedSet rows taken b b
+      → TreeLabelled t x matchedSet rows b b
   tree-stays z h = record { sized = z; same = refl; equal = λ p q l e m. sym (h p m) }
 
-  pub tree-matched : Sized taken b → bit matchedSet t ≡ true → TreeLabelled t x matchedSet rows taken b b
+  pub tree-matched : Sized b → bit matchedSet t ≡ true → TreeLabelled t x matchedSet rows b b
   unfolding labelTree
   tree-matched z h = tree-stays z (λ p m. rw (sym m ∙ h))
 
-  pub tree-done : Sized taken b → bit (b .trees) t ≡ true → TreeLabelled t x matchedSet rows taken b b
+  pub tree-done : Sized b → bit (b .trees) t ≡ true → TreeLabelled t x matchedSet rows b b
   unfolding labelTree
   tree-done z h = tree-stays z (λ p m. rw (h, or-true (matched p (matesOf (b .mates)) t)))
 
@@ -96,19 +102,18 @@ module _ (t x matchedSet : ℕ) (rows taken : List ℕ) (b : Store) where
   unfolding labelTree
   tree-model p e k = rw (e, k)
 
-  pub tree-labelled : Sized taken b → bit matchedSet t ≡ false → bit (b .trees) t ≡ false → (b′ : Store)
-      → Swept t rows (b .mates) (b .trees) (b .spares) (b′ .mates) (b′ .trees) (b′ .spares)
-      → Relabelled x (b .trees) (b .spares) (b′ .trees) (b′ .spares) (b .tree-label) (b .spare-label) (b′ .tree-label) (b′ .spare-label)
-      → TreeLabelled t x matchedSet rows taken b b′
+  pub tree-labelled : Sized b → bit matchedSet t ≡ false → bit (b .trees) t ≡ false → (b′ : Store)
+      → Swept t rows (b .mates) (b .trees) (b .live) (b′ .mates) (b′ .trees) (b′ .live)
+      → Relabelled x (b .trees) (b .live) (b′ .trees) (b′ .live) (b .tree-label) (b .spare-label) (b′ .tree-label) (b′ .spare-label)
+      → TreeLabelled t x matchedSet rows b b′
   tree-labelled z h k b′ f g =
       record {
         sized = record {
           mates-length = f .mates-length;
-          spares-length = f .seen-length;
+          live-length = f .live-length;
           tree-length = g .tree-length;
           spare-length = g .spare-length;
           below = below-same (b .mates) (b′ .mates) (f .same) 64 (z .below);
-          taken-are = taken-same (b .mates) (b′ .mates) (f .same) taken (z .taken-are);
         };
         same = f .same;
         equal = λ p q l e m.
@@ -118,35 +123,34 @@ module _ (t x matchedSet : ℕ) (rows taken : List ℕ) (b : Store) where
       }
 
 -- A spare rank as an origin.
-module _ (s x : ℕ) (rows taken : List ℕ) (b : Store) where
-  pub spare-done : Sized taken b → member (b .spares) s ≡ true → SpareLabelled s x rows taken b b
+module _ (s x : ℕ) (rows : List ℕ) (b : Store) where
+  pub spare-done : Sized b → member (b .live) s ≡ false → SpareLabelled s x rows b b
   unfolding labelSpare
   spare-done z h = record { sized = z; same = refl; equal = λ p q e. sym (rw h) }
 
   abbrev seenBy : Problem → Search
   seenBy p = mateSearch p s (matesOf (b .mates) s) (seeSpare s (fresh (matesOf (b .mates)) (labelsOf b)))
 
-  spare-model : (p : Problem) → member (b .spares) s ≡ false → labelSpare p (matesOf (b .mates)) s (labelsOf b) ≡ labelled (p .spareCost s) (seenBy p) (labelsOf b)
+  spare-model : (p : Problem) → member (b .live) s ≡ true → labelSpare p (matesOf (b .mates)) s (labelsOf b) ≡ labelled (p .spareCost s) (seenBy p) (labelsOf b)
   unfolding labelSpare
   spare-model p h = rw h
 
-  pub spare-labelled : Sized taken b → member (b .spares) s ≡ false → (marked : List ℕ) → ((j : ℕ) → member marked j ≡ (member (b .spares) j || eqb s j)) → (b′ : Store)
-      → MateSwept s rows (b .mates) (b .trees) marked (b′ .mates) (b′ .trees) (b′ .spares)
-      → Relabelled x (b .trees) (b .spares) (b′ .trees) (b′ .spares) (b .tree-label) (b .spare-label) (b′ .tree-label) (b′ .spare-label)
-      → SpareLabelled s x rows taken b b′
+  pub spare-labelled : Sized b → member (b .live) s ≡ true → (marked : List ℕ) → ((j : ℕ) → member marked j ≡ (member (b .live) j && not (eqb s j))) → (b′ : Store)
+      → MateSwept s rows (b .mates) (b .trees) marked (b′ .mates) (b′ .trees) (b′ .live)
+      → Relabelled x (b .trees) (b .live) (b′ .trees) (b′ .live) (b .tree-label) (b .spare-label) (b′ .tree-label) (b′ .spare-label)
+      → SpareLabelled s x rows b b′
   spare-labelled z h marked more b′ f g =
       record {
         sized = record {
           mates-length = f .mates-length;
-          spares-length = f .seen-length;
+          live-length = f .live-length;
           tree-length = g .tree-length;
           spare-length = g .spare-length;
           below = below-same (b .mates) (b′ .mates) (f .same) 64 (z .below);
-          taken-are = taken-same (b .mates) (b′ .mates) (f .same) taken (z .taken-are);
         };
         same = f .same;
         equal = λ p q e.
-            model-labelled x b b′ g (seenBy p) (f .equal p q ∙ ap (mateSearch p s (matesOf (b .mates) s)) (state-spare (b .mates) (b .trees) (b .spares) marked s more))
+            model-labelled x b b′ g (seenBy p) (f .equal p q ∙ ap (mateSearch p s (matesOf (b .mates) s)) (state-spare (b .mates) (b .trees) (b .live) marked s more))
             ∙ ap (λ (y : ℕ). labelled y (seenBy p) (labelsOf b)) (sym e)
             ∙ sym (spare-model p h);
       }

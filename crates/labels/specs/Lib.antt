@@ -2,4 +2,5 @@
 pub mod Store
 pub mod FillSteps
 pub mod LabelSteps
+pub mod SkipSteps
 pub mod OriginSteps

@@ -1,26 +1,30 @@
 -- The loop over the origins: which tree ranks are matched, which origin is next, and the model's labels at the end.
 -- Assumes nothing.
-use Prim.Native.Nat.{ℕ, zero, suc, _+_, _-_, _≤_, _<_}
-use native.Mathlib.Decide.{decLt}
+use Prim.Native.Nat.{ℕ, zero, suc, _+_, _-_, _≤_, _<_, min}
+use native.Mathlib.Decide.{decLt, ℕ-discrete}
 use native.Mathlib.Numerals.{add-one}
 use native.Mathlib.Omega.{arith}
 use mathlib.Core.Path.{_≡_, refl, sym, ap, ap₂, _∙_, fun-ext}
 use mathlib.Core.Logic.{_⊎_, inl, inr}
-use mathlib.Core.Bool.{Bool, true, false, cond, _&&_, _||_, or-false}
+use mathlib.Core.Bool.{Bool, true, false, cond, not, _&&_, _||_, or-false, Bool·not-not}
 use mathlib.Core.List.{List}
 use lib.Dec.{leb, ltb, eqb, eqb·suc-zero, eqb·suc-suc, eqb·zero-suc}
-use lib.ListN.{getD, replicate, length-replicate}
+use lib.ListN.{length, getD, set, length-set, List·getD-eq-default}
+use lib.Seq.{getD-set-same, getD-set-other}
 use borrow.Author.Tests.{lt-ltb, le-ltb, ltb-true, eq-eqb, ne-eqb, eqb-true, eqb-false}
-use Rattle.loops.specs.Loop.{first}
-use Rattle.loops.specs.TestLaws.{truth, clash, and-first, or-either, or-neither}
+use Rattle.loops.specs.Loop.{first, behind}
+use Rattle.loops.specs.FirstLaws.{behind-past, some-of, some-at}
+use Rattle.loops.specs.TestLaws.{truth, clash, and-first, or-either, or-neither, same-test}
 use Rattle.bits.specs.Bit.{bit}
 use Rattle.bits.specs.BitLaws.{bit-zero}
-use Rattle.sets.specs.SetsLaws.{member-none}
+use Rattle.sets.specs.Sets.{member}
+use Rattle.sets.specs.SetsLaws.{member-past}
 use Rattle.optimum.specs.Search.{Problem, Mates}
 use Rattle.optimum.specs.Lowest.{Labels, unlabelled, matched, labelTree, labelSpare, labelFrom, labels}
 use Rattle.search.specs.State.{matesOf, Below, Suits}
 use Rattle.search.specs.ExploreSteps.{below-same}
 use Rattle.matching.specs.Progress.{costAt, Holds}
+use Rattle.labels.specs.SkipSteps.{skip-one}
 use Rattle.labels.specs.Store.{Store, store, labelsOf, Sized, TreeLabelled, SpareLabelled, Labellable, Labelled, treeNext, matchedBelow}
 
 -- Is there a hit below one more?
@@ -46,6 +50,23 @@ module _ (mates : List ℕ) where
       → (t : ℕ) → bit w′ t ≡ matchedBelow (s + 1) mates t
   matched-turn s w w′ h more t =
       more t ∙ rw (h t, add-one s) (sym (any-more s (λ s. eqb (getD mates s 0) (suc t))))
+
+  -- Spare ranks that have no mate do not count.
+  pub matched-below : (spares left : ℕ) → left ≤ spares → ((s : ℕ) → left ≤ s → s < spares → getD mates s 0 ≡ 0) → (t : ℕ) → matchedBelow left mates t ≡ matchedBelow spares mates t
+  matched-below spares left few none t = same-test _ _ forth back
+    where
+      forth : matchedBelow left mates t ≡ true → matchedBelow spares mates t ≡ true
+      forth h =
+          let (s, l, is) = some-at left (λ s. eqb (getD mates s 0) (suc t)) h in
+          some-of spares (λ s. eqb (getD mates s 0) (suc t)) s (omega arith) is
+
+      back : matchedBelow spares mates t ≡ true → matchedBelow left mates t ≡ true
+      back h =
+          let (s, l, is) = some-at spares (λ s. eqb (getD mates s 0) (suc t)) h in
+          elim (decLt s left) [
+            | yes k ↦ some-of left (λ s. eqb (getD mates s 0) (suc t)) s k is
+            | no k ↦ absurd (omega (arith, none s (omega arith) l, eqb-true (getD mates s 0) (suc t) is))
+          ]
 
 -- A mate put in.
 pub no-mate : (w mate : ℕ) → mate ≡ 0 → (t : ℕ) → bit w t ≡ (bit w t || eqb mate (suc t))
@@ -96,61 +117,151 @@ next-same trees spares cost ts ss rows p e h m turns t l (suc s) k =
       | no b ↦ rw (e, le-ltb t trees (omega arith))
     ]
 
--- What the loop keeps.
-pub record Labelling (trees spares : ℕ) (cost ts ss rows taken mates₀ : List ℕ) (b : Store) (t left turns : ℕ) : Type 0 where
+-- What is left out when fewer spare ranks are left is not live.
+pub left-out : (live : List ℕ) (left left′ : ℕ) → left′ ≡ min left (behind 256 (member live)) → left ≤ 256
+    → (left′ ≤ left) × ((s : ℕ) → left′ ≤ s → s < left → member live s ≡ false)
+left-out live left left′ e few = (omega arith, λ s a l. behind-past 256 (member live) s (omega arith) (omega arith))
+
+-- What the loop keeps: as many turns are left as tree ranks and spare ranks.
+pub record Labelling (trees spares : ℕ) (cost ts ss rows mates₀ : List ℕ) (b : Store) (t left : ℕ) : Type 0 where
   pub trees-within : t ≤ trees
   pub spares-within : left ≤ spares
-  pub turns-are : turns ≡ (trees - t) + left
-  pub sized : Sized taken b
+  pub sized : Sized b
   pub below : Below trees (b .mates)
   pub same : matesOf (b .mates) ≡ matesOf mates₀
   pub equal :
       (p : Problem) → p .trees ≡ trees → Holds p spares cost ts ss rows
-      → labelFrom p (matesOf mates₀) turns t left (labelsOf b) ≡ labels p (matesOf mates₀)
+      → labelFrom p (matesOf mates₀) ((trees - t) + left) t left (labelsOf b) ≡ labels p (matesOf mates₀)
 
-module _ (trees spares : ℕ) (cost ts ss rows taken mates tree-label spare-label : List ℕ) (h : Labellable trees spares ts ss taken mates tree-label spare-label) where
-  none-yet : labelsOf (store mates 0 (replicate 4 0) tree-label spare-label) ≡ unlabelled
-  none-yet =
-      ap₂ (λ (f g : ℕ → Bool). record { treeDone = f; spareDone = g; treeLabel = λ t. getD tree-label t 0; spareLabel = λ s. getD spare-label s 0 })
-      (fun-ext bit-zero) (fun-ext (member-none 4))
-      ∙ ap₂ (λ (f g : ℕ → ℕ). record { treeDone = λ _. false; spareDone = λ _. false; treeLabel = f; spareLabel = g })
-      (fun-ext (h .no-tree)) (fun-ext (h .no-spare))
+-- The loop that gives every spare rank its own cost.
+pub record Owned (spares : ℕ) (cost ss label₀ : List ℕ) (s : ℕ) (label : List ℕ) : Type 0 where
+  pub within : s ≤ spares
+  pub size : length label ≡ 256
+  pub at : (i : ℕ) → getD label i 0 ≡ cond (ltb i s) (costAt cost ss i) (getD label₀ i 0)
 
-  pub labelling-start : Labelling trees spares cost ts ss rows taken mates (store mates 0 (replicate 4 0) tree-label spare-label) 0 spares (trees + spares)
-  labelling-start =
+module _ (spares : ℕ) (cost ss label₀ : List ℕ) where
+  pub owned-start : length label₀ ≡ 256 → Owned spares cost ss label₀ 0 label₀
+  owned-start l = record { within = omega arith; size = l; at = λ i. rw (le-ltb i 0 (omega arith)) }
+
+  pub owned-turn : (s : ℕ) (label : List ℕ) → Owned spares cost ss label₀ s label → s < spares → spares ≤ 256 → (x : ℕ) → x ≡ costAt cost ss s
+      → Owned spares cost ss label₀ (s + 1) (set label s x)
+  owned-turn s label h l few x e =
       record {
-        trees-within = omega arith;
-        spares-within = omega arith;
-        turns-are = omega arith;
-        sized = record {
-          mates-length = h .mates-length;
-          spares-length = length-replicate {A = ℕ} 4 0;
-          tree-length = h .tree-length;
-          spare-length = h .spare-length;
-          below = λ s. omega (arith, h .below s, h .few-trees);
-          taken-are = h .taken-are;
-        };
-        below = h .below;
-        same = refl;
-        equal = λ p e q.
-            ap (labelFrom p (matesOf mates) (trees + spares) 0 spares) none-yet
-            ∙ rw (e, q .spares-are);
+        within = omega arith;
+        size = length-set label s x ∙ h .size;
+        at = λ i. elim (ℕ-discrete i s) [
+          | yes q ↦ rw (q, getD-set-same label s x 0 (omega (arith, h .size)), lt-ltb s (s + 1) (omega arith)) e
+          | no q ↦ getD-set-other label s i x 0 q ∙ h .at i ∙ ap (λ z. cond z (costAt cost ss i) (getD label₀ i 0)) (same i q)
+        ];
       }
+    where
+      same : (i : ℕ) → (i ≡ s → ⊥) → ltb i s ≡ ltb i (s + 1)
+      same i q = elim (decLt i s) [
+        | yes k ↦ rw (lt-ltb i s k, lt-ltb i (s + 1) (omega arith))
+        | no k ↦ rw (le-ltb i s (omega arith), le-ltb i (s + 1) (omega arith))
+      ]
 
-module _ (trees spares : ℕ) (cost ts ss rows taken mates₀ : List ℕ) (b : Store) (t left turns : ℕ) (h : Labelling trees spares cost ts ss rows taken mates₀ b t left turns) where
+  pub owned-end : (s : ℕ) (label : List ℕ) → Owned spares cost ss label₀ s label → spares ≤ s
+      → (i : ℕ) → getD label i 0 ≡ cond (ltb i spares) (costAt cost ss i) (getD label₀ i 0)
+  owned-end s label h l = let e : s ≡ spares = omega (arith, h .within) in rw e at (h .at)
+
+module _
+    (trees spares : ℕ)
+    (cost ts ss rows taken mates tree-label spare-label : List ℕ)
+    (h : Labellable trees spares cost ts ss taken mates tree-label spare-label)
+    (own : List ℕ)
+    (own-length : length own ≡ 256)
+    (owned : (s : ℕ) → getD own s 0 ≡ cond (ltb s spares) (costAt cost ss s) (getD spare-label s 0))
+  where
+    -- What is not live at first is unmatched.
+    free : (s : ℕ) → not (member taken s) ≡ eqb (matesOf mates s) 0
+    free s = elim (decLt s 256) [
+      | yes l ↦ rw (h .taken-are s l) (Bool·not-not (eqb (getD mates s 0) 0))
+      | no l ↦ rw (member-past taken s (omega (arith, h .taken-length)) (omega arith), List·getD-eq-default mates 0 {n = s} (omega (arith, h .mates-length)))
+    ]
+
+    owns : (p : Problem) → Holds p spares cost ts ss rows → (s : ℕ) → getD own s 0 ≡ cond (ltb s (p .spares)) (p .spareCost s) 0
+    owns p q s = owned s ∙ rw (q .spares-are, h .no-spare s) (elim (decLt s spares) [
+      | yes l ↦ rw (lt-ltb s spares l, q .spare-cost s (omega (arith, q .spares-are)))
+      | no l ↦ rw (le-ltb s spares (omega arith))
+    ])
+
+    none-yet : (p : Problem) → Holds p spares cost ts ss rows → labelsOf (store mates 0 taken tree-label own) ≡ unlabelled p (matesOf mates)
+    none-yet p q =
+        ap₂ (λ (f g : ℕ → Bool). record { treeDone = f; spareDone = g; treeLabel = λ t. getD tree-label t 0; spareLabel = λ s. getD own s 0 })
+        (fun-ext bit-zero) (fun-ext free)
+        ∙ ap₂ (λ (f g : ℕ → ℕ). record { treeDone = λ _. false; spareDone = λ s. eqb (matesOf mates s) 0; treeLabel = f; spareLabel = g })
+        (fun-ext (h .no-tree)) (fun-ext (owns p q))
+
+    -- Of spare ranks that are not among the first few none is matched.
+    pub matched-few : (left : ℕ) → left ≡ min spares (behind 256 (member taken)) → (w : ℕ) → ((t : ℕ) → bit w t ≡ matchedBelow left mates t) → (t : ℕ) → bit w t ≡ matchedBelow spares mates t
+    matched-few left e w is t =
+        is t
+        ∙ matched-below mates spares left (omega arith)
+        (λ s a l. eqb-true (getD mates s 0) 0 (sym (free s) ∙ ap not (left-out taken spares left e (h .few-spares) .1 s a l))) t
+
+    pub labelling-start : Labelling trees spares cost ts ss rows mates (store mates 0 taken tree-label own) 0 spares
+    labelling-start =
+        record {
+          trees-within = omega arith;
+          spares-within = omega arith;
+          sized = record {
+            mates-length = h .mates-length;
+            live-length = h .taken-length;
+            tree-length = h .tree-length;
+            spare-length = own-length;
+            below = λ s. omega (arith, h .below s, h .few-trees);
+          };
+          below = h .below;
+          same = refl;
+          equal = λ p e q.
+              let all : (trees - 0) + spares ≡ trees + spares = omega arith in
+              ap (labelFrom p (matesOf mates) ((trees - 0) + spares) 0 spares) (none-yet p q)
+              ∙ rw (all, e, q .spares-are);
+        }
+
+module _ (trees spares : ℕ) (cost ts ss rows mates₀ : List ℕ) (b : Store) (t left : ℕ) (h : Labelling trees spares cost ts ss rows mates₀ b t left) where
   suits : (p : Problem) → p .trees ≡ trees → Holds p spares cost ts ss rows → Suits p rows (b .mates)
   suits p e q = record { rows-are = q .rows-are; below = rw e (h .below) }
 
-  module _ (some : 0 < turns) where
-    one-less : turns ≡ suc (turns - 1)
-    one-less = omega arith
+  -- Spare ranks that are not live are left out.
+  pub labelling-skip :
+      ((s s′ : ℕ) → s ≤ s′ → s′ < spares → costAt cost ss s ≤ costAt cost ss s′)
+      → (left′ : ℕ) → left′ ≤ left → ((s : ℕ) → left′ ≤ s → s < left → member (b .live) s ≡ false)
+      → Labelling trees spares cost ts ss rows mates₀ b t left′
+  labelling-skip rising left′ k quiet =
+      record {
+        trees-within = h .trees-within;
+        spares-within = omega (arith, h .spares-within);
+        sized = h .sized;
+        below = h .below;
+        same = h .same;
+        equal = λ p e q. let all : left′ + (left - left′) ≡ left = omega arith in rw all at (skipped p e q (left - left′) (omega arith)) ∙ h .equal p e q;
+      }
+    where
+      skipped : (p : Problem) → p .trees ≡ trees → Holds p spares cost ts ss rows → (d : ℕ) → left′ + d ≤ left
+          → labelFrom p (matesOf mates₀) ((trees - t) + left′) t left′ (labelsOf b) ≡ labelFrom p (matesOf mates₀) ((trees - t) + (left′ + d)) t (left′ + d) (labelsOf b)
+      skipped p e q zero m = let z : left′ + 0 ≡ left′ = omega arith in rw z
+      skipped p e q (suc d) m =
+          let one : left′ + suc d ≡ suc (left′ + d) = omega arith in
+          let more : (trees - t) + suc (left′ + d) ≡ suc ((trees - t) + (left′ + d)) = omega arith in
+          skipped p e q d (omega arith)
+          ∙ rw (one, more) (sym (skip-one p (matesOf mates₀) (mate-below p e q) (rise p q) ((trees - t) + (left′ + d)) t (left′ + d) (labelsOf b)
+          (ap not (quiet (left′ + d) (omega arith) (omega arith))) (rw e refl) (omega (arith, q .spares-are, h .spares-within))))
+        where
+          mate-below : (p : Problem) → p .trees ≡ trees → Holds p spares cost ts ss rows → (s u : ℕ) → s < p .spares → matesOf mates₀ s ≡ suc u → u < p .trees
+          mate-below p e q s u l is = omega (arith, e, h .below s, ap (λ (f : Mates). f s) (h .same))
 
+          rise : (p : Problem) → Holds p spares cost ts ss rows → (s s′ : ℕ) → s ≤ s′ → s′ < p .spares → p .spareCost s ≤ p .spareCost s′
+          rise p q s s′ a l = rw (q .spare-cost s (omega arith), q .spare-cost s′ l) (rising s s′ a (omega (arith, q .spares-are)))
+
+  module _ (some : 0 < (trees - t) + left) where
     -- A tree rank that is next is there.
     pub tree-there : treeNext trees cost ts ss t left ≡ true → t < trees
     tree-there n = at-test (or-either (eqb left 0) (ltb t trees && leb (costAt cost ss (left - 1)) (costAt cost ts t)) n)
       where
         at-test : (eqb left 0 ≡ true) ⊎ ((ltb t trees && leb (costAt cost ss (left - 1)) (costAt cost ts t)) ≡ true) → t < trees
-        at-test (inl z) = omega (arith, h .turns-are, eqb-true left 0 z)
+        at-test (inl z) = omega (arith, eqb-true left 0 z)
         at-test (inr z) = ltb-true t trees (and-first (ltb t trees) (leb (costAt cost ss (left - 1)) (costAt cost ts t)) z)
 
     -- A spare rank that is next is there.
@@ -161,14 +272,15 @@ module _ (trees spares : ℕ) (cost ts ss rows taken mates₀ : List ℕ) (b : S
 
     pub labelling-tree : treeNext trees cost ts ss t left ≡ true → (x : ℕ) → x ≡ costAt cost ts t
         → (matchedSet : ℕ) → ((u : ℕ) → bit matchedSet u ≡ matchedBelow spares mates₀ u)
-        → (b′ : Store) → TreeLabelled t x matchedSet rows taken b b′
-        → Labelling trees spares cost ts ss rows taken mates₀ b′ (t + 1) left (turns - 1)
+        → (b′ : Store) → TreeLabelled t x matchedSet rows b b′
+        → Labelling trees spares cost ts ss rows mates₀ b′ (t + 1) left
     labelling-tree n x xe matchedSet mt b′ f =
         let l : t < trees = tree-there n in
+        let turns : ℕ = (trees - (t + 1)) + left in
+        let one-less : (trees - t) + left ≡ suc turns = omega arith in
         record {
           trees-within = omega arith;
           spares-within = h .spares-within;
-          turns-are = omega (arith, h .turns-are);
           sized = f .sized;
           below = below-same (b .mates) (b′ .mates) (f .same) trees (h .below);
           same = f .same ∙ h .same;
@@ -178,21 +290,23 @@ module _ (trees spares : ℕ) (cost ts ss rows taken mates₀ : List ℕ) (b : S
               f .equal p (suits p e q) (rw e l) (q .tree-cost t (rw e l) ∙ sym xe)
               (mt t ∙ ap₂ (λ (n : ℕ) (z : Mates). ltb (first n (λ s. eqb (z s) (suc t))) n) (sym (q .spares-are)) (sym (h .same)))
               ∙ ap (λ (z : Mates). labelTree p z t (labelsOf b)) (h .same) in
-              ap (labelFrom p m (turns - 1) (t + 1) left) step
-              ∙ rw (add-one t) (sym (from-tree p m (turns - 1) t (labelsOf b) left (next-same trees spares cost ts ss rows p e q m (turns - 1) t (labelsOf b) left (h .spares-within) ∙ n)))
+              ap (labelFrom p m turns (t + 1) left) step
+              ∙ ap (λ (i : ℕ). labelFrom p m turns i left (labelTree p m t (labelsOf b))) (add-one t)
+              ∙ sym (from-tree p m turns t (labelsOf b) left (next-same trees spares cost ts ss rows p e q m turns t (labelsOf b) left (h .spares-within) ∙ n))
               ∙ ap (λ (k : ℕ). labelFrom p m k t left (labelsOf b)) (sym one-less)
               ∙ h .equal p e q;
         }
 
     pub labelling-spare : treeNext trees cost ts ss t left ≡ false → (x : ℕ) → x ≡ costAt cost ss (left - 1)
-        → (b′ : Store) → SpareLabelled (left - 1) x rows taken b b′
-        → Labelling trees spares cost ts ss rows taken mates₀ b′ t (left - 1) (turns - 1)
+        → (b′ : Store) → SpareLabelled (left - 1) x rows b b′
+        → Labelling trees spares cost ts ss rows mates₀ b′ t (left - 1)
     labelling-spare n x xe b′ f =
         let l : 0 < left = spare-there n in
+        let turns : ℕ = (trees - t) + (left - 1) in
+        let one-less : (trees - t) + left ≡ suc turns = omega arith in
         record {
           trees-within = h .trees-within;
           spares-within = omega (arith, h .spares-within);
-          turns-are = omega (arith, h .turns-are);
           sized = f .sized;
           below = below-same (b .mates) (b′ .mates) (f .same) trees (h .below);
           same = f .same ∙ h .same;
@@ -201,13 +315,13 @@ module _ (trees spares : ℕ) (cost ts ss rows taken mates₀ : List ℕ) (b : S
               let step : labelsOf b′ ≡ labelSpare p m (left - 1) (labelsOf b) =
               f .equal p (suits p e q) (q .spare-cost (left - 1) (omega (arith, q .spares-are, h .spares-within)) ∙ sym xe)
               ∙ ap (λ (z : Mates). labelSpare p z (left - 1) (labelsOf b)) (h .same) in
-              ap (labelFrom p m (turns - 1) t (left - 1)) step
-              ∙ sym (from-spare p m (turns - 1) t (labelsOf b) left (next-same trees spares cost ts ss rows p e q m (turns - 1) t (labelsOf b) left (h .spares-within) ∙ n))
+              ap (labelFrom p m turns t (left - 1)) step
+              ∙ sym (from-spare p m turns t (labelsOf b) left (next-same trees spares cost ts ss rows p e q m turns t (labelsOf b) left (h .spares-within) ∙ n))
               ∙ ap (λ (k : ℕ). labelFrom p m k t left (labelsOf b)) (sym one-less)
               ∙ h .equal p e q;
         }
 
-  pub labelling-end : turns ≤ 0 → Labelled trees spares cost ts ss rows mates₀ (b .mates) (b .tree-label) (b .spare-label)
+  pub labelling-end : (trees - t) + left ≤ 0 → Labelled trees spares cost ts ss rows mates₀ (b .mates) (b .tree-label) (b .spare-label)
   labelling-end z =
       record {
         mates-length = h .sized .mates-length;
@@ -221,7 +335,7 @@ module _ (trees spares : ℕ) (cost ts ss rows taken mates₀ : List ℕ) (b : S
     where
       whole : (p : Problem) → p .trees ≡ trees → Holds p spares cost ts ss rows → labelsOf b ≡ labels p (matesOf mates₀)
       whole p e q =
-          let none : turns ≡ 0 = omega arith in
+          let none : (trees - t) + left ≡ 0 = omega arith in
           sym (from-end p (matesOf mates₀) t (labelsOf b) left)
           ∙ ap (λ (k : ℕ). labelFrom p (matesOf mates₀) k t left (labelsOf b)) (sym none)
           ∙ h .equal p e q

@@ -14,35 +14,34 @@ use Rattle.optimum.specs.Lowest.{Labels, matched, labelTree, mateSearch, labelS
 use Rattle.search.specs.State.{matesOf, stateOf, Below, Taken, Suits}
 use Rattle.matching.specs.Progress.{costAt, Edges, Holds}
 
--- The arrays: the mates, the ranks that have a label, and the labels.
+-- The arrays: the mates, the tree ranks that have a label, the spare ranks that have none, and the labels.
 pub record Store : Type 0 where
   pub mates : List ℕ
   pub trees : ℕ
-  pub spares : List ℕ
+  pub live : List ℕ
   pub tree-label : List ℕ
   pub spare-label : List ℕ
 
 abbrev pub store : List ℕ → ℕ → List ℕ → List ℕ → List ℕ → Store
-store mates trees spares tree-label spare-label =
-    record { mates = mates; trees = trees; spares = spares; tree-label = tree-label; spare-label = spare-label }
+store mates trees live tree-label spare-label =
+    record { mates = mates; trees = trees; live = live; tree-label = tree-label; spare-label = spare-label }
 
 abbrev pub labelsOf : Store → Labels
 labelsOf b =
     record {
       treeDone = bit (b .trees);
-      spareDone = member (b .spares);
+      spareDone = λ s. not (member (b .live) s);
       treeLabel = λ t. getD (b .tree-label) t 0;
       spareLabel = λ s. getD (b .spare-label) s 0;
     }
 
--- The arrays have their sizes, the mates are tree ranks, and `taken` is the set of the matched spare ranks.
-pub record Sized (taken : List ℕ) (b : Store) : Type 0 where
+-- The arrays have their sizes, and the mates are tree ranks.
+pub record Sized (b : Store) : Type 0 where
   pub mates-length : length (b .mates) ≡ 256
-  pub spares-length : length (b .spares) ≡ 4
+  pub live-length : length (b .live) ≡ 4
   pub tree-length : length (b .tree-label) ≡ 64
   pub spare-length : length (b .spare-label) ≡ 256
   pub below : Below 64 (b .mates)
-  pub taken-are : Taken (b .mates) taken
 
 -- The members of a word, at places from `base` on, have the label x.
 pub record Filled (word base x : ℕ) (label label′ : List ℕ) : Type 0 where
@@ -50,30 +49,30 @@ pub record Filled (word base x : ℕ) (label label′ : List ℕ) : Type 0 where
   pub before : (j : ℕ) → j < base → getD label′ j 0 ≡ getD label j 0
   pub size : length label′ ≡ length label
 
--- What is new in a set has the label x.
+-- What a set has lost has the label x.
 pub record SparesFilled (x : ℕ) (old new label label′ : List ℕ) : Type 0 where
-  pub at : (s : ℕ) → getD label′ s 0 ≡ cond (member new s && not (member old s)) x (getD label s 0)
+  pub at : (s : ℕ) → getD label′ s 0 ≡ cond (member old s && not (member new s)) x (getD label s 0)
   pub size : length label′ ≡ length label
 
--- What is newly seen has the label x.
-pub record Relabelled (x old-trees : ℕ) (old-spares : List ℕ) (trees : ℕ) (spares tree-label spare-label tree-label′ spare-label′ : List ℕ) : Type 0 where
+-- What is newly seen, or no longer live, has the label x.
+pub record Relabelled (x old-trees : ℕ) (old-live : List ℕ) (trees : ℕ) (live tree-label spare-label tree-label′ spare-label′ : List ℕ) : Type 0 where
   pub tree-length : length tree-label′ ≡ 64
   pub spare-length : length spare-label′ ≡ 256
   pub at-tree : (t : ℕ) → getD tree-label′ t 0 ≡ cond (bit trees t && not (bit old-trees t)) x (getD tree-label t 0)
-  pub at-spare : (s : ℕ) → getD spare-label′ s 0 ≡ cond (member spares s && not (member old-spares s)) x (getD spare-label s 0)
+  pub at-spare : (s : ℕ) → getD spare-label′ s 0 ≡ cond (member old-live s && not (member live s)) x (getD spare-label s 0)
 
 -- A search from the mate of spare rank s.
-pub record MateSwept (s : ℕ) (rows mates : List ℕ) (trees : ℕ) (seen mates′ : List ℕ) (trees′ : ℕ) (seen′ : List ℕ) : Type 0 where
+pub record MateSwept (s : ℕ) (rows mates : List ℕ) (trees : ℕ) (live mates′ : List ℕ) (trees′ : ℕ) (live′ : List ℕ) : Type 0 where
   pub mates-length : length mates′ ≡ 256
-  pub seen-length : length seen′ ≡ 4
+  pub live-length : length live′ ≡ 4
   pub same : matesOf mates′ ≡ matesOf mates
   pub equal :
       (p : Problem) → Suits p rows mates
-      → stateOf mates′ trees′ seen′ false ≡ mateSearch p s (getD mates s 0) (stateOf mates trees seen false)
+      → stateOf mates′ trees′ live′ false ≡ mateSearch p s (getD mates s 0) (stateOf mates trees live false)
 
 -- Tree rank t as an origin.
-pub record TreeLabelled (t x matchedSet : ℕ) (rows taken : List ℕ) (b b′ : Store) : Type 0 where
-  pub sized : Sized taken b′
+pub record TreeLabelled (t x matchedSet : ℕ) (rows : List ℕ) (b b′ : Store) : Type 0 where
+  pub sized : Sized b′
   pub same : matesOf (b′ .mates) ≡ matesOf (b .mates)
   pub equal :
       (p : Problem) → Suits p rows (b .mates) → t < p .trees → p .treeCost t ≡ x
@@ -81,8 +80,8 @@ pub record TreeLabelled (t x matchedSet : ℕ) (rows taken : List ℕ) (b b′ :
       → labelsOf b′ ≡ labelTree p (matesOf (b .mates)) t (labelsOf b)
 
 -- Spare rank s as an origin.
-pub record SpareLabelled (s x : ℕ) (rows taken : List ℕ) (b b′ : Store) : Type 0 where
-  pub sized : Sized taken b′
+pub record SpareLabelled (s x : ℕ) (rows : List ℕ) (b b′ : Store) : Type 0 where
+  pub sized : Sized b′
   pub same : matesOf (b′ .mates) ≡ matesOf (b .mates)
   pub equal :
       (p : Problem) → Suits p rows (b .mates) → p .spareCost s ≡ x
@@ -96,16 +95,18 @@ treeNext trees cost ts ss t s = eqb s 0 || (ltb t trees && leb (costAt cost ss (
 abbrev pub matchedBelow : ℕ → List ℕ → ℕ → Bool
 matchedBelow n mates t = ltb (first n (λ s. eqb (getD mates s 0) (suc t))) n
 
--- What labelling needs: a matching, and no labels yet.
-pub record Labellable (trees spares : ℕ) (ts ss taken mates tree-label spare-label : List ℕ) : Type 0 where
+-- What labelling needs: a matching, spare ranks by rising cost, and no labels yet.
+pub record Labellable (trees spares : ℕ) (cost ts ss taken mates tree-label spare-label : List ℕ) : Type 0 where
   pub few-trees : trees ≤ 64
   pub few-spares : spares ≤ 256
   pub tree-edges : Edges trees ts
   pub spare-edges : Edges spares ss
+  pub rising : (s s′ : ℕ) → s ≤ s′ → s′ < spares → costAt cost ss s ≤ costAt cost ss s′
   pub mates-length : length mates ≡ 256
   pub tree-length : length tree-label ≡ 64
   pub spare-length : length spare-label ≡ 256
   pub below : Below trees mates
+  pub taken-length : length taken ≡ 4
   pub taken-are : Taken mates taken
   pub no-tree : (t : ℕ) → getD tree-label t 0 ≡ 0
   pub no-spare : (s : ℕ) → getD spare-label s 0 ≡ 0

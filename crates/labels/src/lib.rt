@@ -2,12 +2,14 @@
 use ids::SpareRank;
 use ids::TreeRank;
 ghost use mathlib.Core.Path.{_≡_};
-ghost use mathlib.Core.Bool.{_||_};
-ghost use Prim.Native.Nat.{ℕ, suc, _+_, _<_, _≤_};
-ghost use lib.Dec.{eqb};
+ghost use mathlib.Core.Bool.{cond, _||_};
+ghost use Prim.Native.Nat.{ℕ, suc, _+_, _<_, _≤_, min};
+ghost use lib.Dec.{eqb, ltb};
 ghost use lib.ListN.{getD, length};
+ghost use Rattle.loops.specs.Loop.{behind};
 ghost use Rattle.bits.specs.Bit.{bit};
-ghost use Rattle.search.specs.State.{Below, Taken};
+ghost use Rattle.sets.specs.Sets.{member};
+ghost use Rattle.search.specs.State.{Below};
 ghost use Rattle.matching.specs.Progress.{Edges, costAt};
 ghost use Rattle.labels.specs.Store.{store, Sized, Filled, SparesFilled, Relabelled, MateSwept, TreeLabelled, SpareLabelled, Labellable, Labelled, treeNext, matchedBelow};
 
@@ -24,46 +26,45 @@ fn fill(word: u64, base: usize, x: u32, label: &mut [u32])
     }
 }
 
-// Gives the label `x` to the spare ranks that are new in a set.
+// Gives the label `x` to the spare ranks that a set has lost.
 fn fill_spares(x: u32, old: &[u64; 4], new: &[u64; 4], label: &mut [u32; 256])
-    requires { ⌜ (length (now new) ≡ 4) × (length (now label) ≡ 256) ⌝ }
+    requires { ⌜ (length (now old) ≡ 4) × (length (now label) ≡ 256) ⌝ }
     ensures { λ r. ⌜ SparesFilled x (now (old .entry)) (now (new .entry)) (now (label .entry)) (now (label .exit)) ⌝ }
 {
     let mut k = 0usize;
     while k < 4 {
-        fill(bits::less(new[k], old[k]), 64 * k, x, label);
+        fill(bits::less(old[k], new[k]), 64 * k, x, label);
         k += 1;
     }
 }
 
-// Gives the label `x` to the ranks that are newly seen.
+// Gives the label `x` to the tree ranks that are newly seen and to the spare ranks that are no longer live.
 fn relabel(
     x: u32,
     old_trees: u64,
-    old_spares: &[u64; 4],
+    old_live: &[u64; 4],
     trees: u64,
-    spares: &[u64; 4],
+    live: &[u64; 4],
     tree_label: &mut [u32; 64],
     spare_label: &mut [u32; 256],
 )
-    requires { ⌜ (length (now spares) ≡ 4) × (length (now «tree_label») ≡ 64) × (length (now «spare_label») ≡ 256) ⌝ }
-    ensures { λ r. ⌜ Relabelled x «old_trees» (now («old_spares» .entry)) trees (now (spares .entry)) (now («tree_label» .entry)) (now («spare_label» .entry)) (now («tree_label» .exit)) (now («spare_label» .exit)) ⌝ }
+    requires { ⌜ (length (now «old_live») ≡ 4) × (length (now «tree_label») ≡ 64) × (length (now «spare_label») ≡ 256) ⌝ }
+    ensures { λ r. ⌜ Relabelled x «old_trees» (now («old_live» .entry)) trees (now (live .entry)) (now («tree_label» .entry)) (now («spare_label» .entry)) (now («tree_label» .exit)) (now («spare_label» .exit)) ⌝ }
 {
     fill(bits::less(trees, old_trees), 0, x, tree_label);
-    fill_spares(x, old_spares, spares, spare_label);
+    fill_spares(x, old_live, live, spare_label);
 }
 
 // Explores from the mate of spare rank `s`, if it has one that was not seen.
 fn explore_mate(
     s: SpareRank,
     rows: &[u64; 256],
-    taken: &[u64; 4],
     mates: &mut [u32; 256],
     tree_seen: &mut u64,
-    spare_seen: &mut [u64; 4],
+    live: &mut [u64; 4],
 )
-    requires { ⌜ (s .0 < 256) × (length (now mates) ≡ 256) × (length (now «spare_seen») ≡ 4) × Below 64 (now mates) × Taken (now mates) (now taken) ⌝ }
-    ensures { λ r. ⌜ MateSwept (s .0) (now (rows .entry)) (now (mates .entry)) (now («tree_seen» .entry)) (now («spare_seen» .entry)) (now (mates .exit)) (now («tree_seen» .exit)) (now («spare_seen» .exit)) ⌝ }
+    requires { ⌜ (s .0 < 256) × (length (now mates) ≡ 256) × (length (now live) ≡ 4) × Below 64 (now mates) ⌝ }
+    ensures { λ r. ⌜ MateSwept (s .0) (now (rows .entry)) (now (mates .entry)) (now («tree_seen» .entry)) (now (live .entry)) (now (mates .exit)) (now («tree_seen» .exit)) (now (live .exit)) ⌝ }
 {
     let mate = mates[s.0 as usize];
     if mate == 0 {
@@ -72,14 +73,7 @@ fn explore_mate(
     if bits::has(*tree_seen, mate - 1) {
         return;
     }
-    search::explore(
-        TreeRank(mate - 1),
-        rows,
-        taken,
-        mates,
-        tree_seen,
-        spare_seen,
-    );
+    search::explore(TreeRank(mate - 1), rows, mates, tree_seen, live);
 }
 
 // Tree rank `t`, if it is unmatched and has no label, labels what alternating paths reach from it.
@@ -88,15 +82,14 @@ fn label_tree(
     x: u32,
     matched: u64,
     rows: &[u64; 256],
-    taken: &[u64; 4],
     mates: &mut [u32; 256],
     tree_done: &mut u64,
-    spare_done: &mut [u64; 4],
+    live: &mut [u64; 4],
     tree_label: &mut [u32; 64],
     spare_label: &mut [u32; 256],
 )
-    requires { ⌜ (t .0 < 64) × Sized (now taken) (store (now mates) (now «tree_done») (now «spare_done») (now «tree_label») (now «spare_label»)) ⌝ }
-    ensures { λ r. ⌜ TreeLabelled (t .0) x matched (now (rows .entry)) (now (taken .entry)) (store (now (mates .entry)) (now («tree_done» .entry)) (now («spare_done» .entry)) (now («tree_label» .entry)) (now («spare_label» .entry))) (store (now (mates .exit)) (now («tree_done» .exit)) (now («spare_done» .exit)) (now («tree_label» .exit)) (now («spare_label» .exit))) ⌝ }
+    requires { ⌜ (t .0 < 64) × Sized (store (now mates) (now «tree_done») (now live) (now «tree_label») (now «spare_label»)) ⌝ }
+    ensures { λ r. ⌜ TreeLabelled (t .0) x matched (now (rows .entry)) (store (now (mates .entry)) (now («tree_done» .entry)) (now (live .entry)) (now («tree_label» .entry)) (now («spare_label» .entry))) (store (now (mates .exit)) (now («tree_done» .exit)) (now (live .exit)) (now («tree_label» .exit)) (now («spare_label» .exit))) ⌝ }
 {
     if bits::has(matched, t.0) {
         return;
@@ -105,47 +98,46 @@ fn label_tree(
         return;
     }
     let old_trees = *tree_done;
-    let old_spares = *spare_done;
-    search::explore(t, rows, taken, mates, tree_done, spare_done);
+    let old_live = *live;
+    search::explore(t, rows, mates, tree_done, live);
     relabel(
         x,
         old_trees,
-        &old_spares,
+        &old_live,
         *tree_done,
-        spare_done,
+        live,
         tree_label,
         spare_label,
     );
 }
 
-// So does spare rank `s`, matched or not.
+// So does spare rank `s`, if it is live.
 fn label_spare(
     s: SpareRank,
     x: u32,
     rows: &[u64; 256],
-    taken: &[u64; 4],
     mates: &mut [u32; 256],
     tree_done: &mut u64,
-    spare_done: &mut [u64; 4],
+    live: &mut [u64; 4],
     tree_label: &mut [u32; 64],
     spare_label: &mut [u32; 256],
 )
-    requires { ⌜ (s .0 < 256) × Sized (now taken) (store (now mates) (now «tree_done») (now «spare_done») (now «tree_label») (now «spare_label»)) ⌝ }
-    ensures { λ r. ⌜ SpareLabelled (s .0) x (now (rows .entry)) (now (taken .entry)) (store (now (mates .entry)) (now («tree_done» .entry)) (now («spare_done» .entry)) (now («tree_label» .entry)) (now («spare_label» .entry))) (store (now (mates .exit)) (now («tree_done» .exit)) (now («spare_done» .exit)) (now («tree_label» .exit)) (now («spare_label» .exit))) ⌝ }
+    requires { ⌜ (s .0 < 256) × Sized (store (now mates) (now «tree_done») (now live) (now «tree_label») (now «spare_label»)) ⌝ }
+    ensures { λ r. ⌜ SpareLabelled (s .0) x (now (rows .entry)) (store (now (mates .entry)) (now («tree_done» .entry)) (now (live .entry)) (now («tree_label» .entry)) (now («spare_label» .entry))) (store (now (mates .exit)) (now («tree_done» .exit)) (now (live .exit)) (now («tree_label» .exit)) (now («spare_label» .exit))) ⌝ }
 {
-    if sets::contains(spare_done, s.0) {
+    if !sets::contains(live, s.0) {
         return;
     }
     let old_trees = *tree_done;
-    let old_spares = *spare_done;
-    sets::insert(spare_done, s.0);
-    explore_mate(s, rows, taken, mates, tree_done, spare_done);
+    let old_live = *live;
+    sets::remove(live, s.0);
+    explore_mate(s, rows, mates, tree_done, live);
     relabel(
         x,
         old_trees,
-        &old_spares,
+        &old_live,
         *tree_done,
-        spare_done,
+        live,
         tree_label,
         spare_label,
     );
@@ -206,7 +198,31 @@ fn matched_trees(spares: u32, mates: &[u32; 256]) -> u64
     w
 }
 
-// Labels every rank: the origins in turn, by falling cost.
+// Gives every spare rank its own cost as a label.
+fn own_costs(spares: u32, cost: &[u32; 256], ss: &[u32; 256], label: &mut [u32; 256])
+    requires { ⌜ (spares ≤ 256) × Edges spares (now ss) × (length (now label) ≡ 256) ⌝ }
+    ensures labels { λ r. ⌜ ((s : ℕ) → getD (now (label .exit)) s 0 ≡ cond (ltb s spares) (costAt (now (cost .entry)) (now (ss .entry)) s) (getD (now (label .entry)) s 0)) ⌝ }
+    ensures length { λ r. ⌜ length (now (label .exit)) ≡ 256 ⌝ }
+{
+    let mut s = 0;
+    while s < spares {
+        label[s as usize] = cost_at(s, cost, ss);
+        s += 1;
+    }
+}
+
+// How many spare ranks, from the lowest on, are left: `left`, or fewer if those above are not live.
+fn still_left(left: u32, live: &[u64; 4]) -> u32
+    ensures { λ r. ⌜ r ≡ min left (behind 256 (member (now (live .entry)))) ⌝ }
+{
+    let top = sets::top(live);
+    if top < left {
+        return top;
+    }
+    left
+}
+
+// Labels every rank: the origins in turn, by falling cost. Unmatched spare ranks keep their own cost.
 pub fn label(
     trees: u32,
     spares: u32,
@@ -219,17 +235,16 @@ pub fn label(
     tree_label: &mut [u32; 64],
     spare_label: &mut [u32; 256],
 )
-    requires { ⌜ Labellable trees spares (now ts) (now ss) (now taken) (now mates) (now «tree_label») (now «spare_label») ⌝ }
+    requires { ⌜ Labellable trees spares (now cost) (now ts) (now ss) (now taken) (now mates) (now «tree_label») (now «spare_label») ⌝ }
     ensures { λ r. ⌜ Labelled trees spares (now (cost .entry)) (now (ts .entry)) (now (ss .entry)) (now (rows .entry)) (now (mates .entry)) (now (mates .exit)) (now («tree_label» .exit)) (now («spare_label» .exit)) ⌝ }
 {
-    let matched = matched_trees(spares, mates);
+    let mut live = *taken;
+    let mut left = still_left(spares, &live);
+    let matched = matched_trees(left, mates);
+    own_costs(spares, cost, ss, spare_label);
     let mut tree_done = 0u64;
-    let mut spare_done = [0u64; 4];
     let mut t = 0;
-    let mut left = spares;
-    let mut turns = trees + spares;
-    while turns > 0 {
-        turns -= 1;
+    while 0 < trees - t + left {
         if tree_next(TreeRank(t), left, trees, cost, ts, ss) {
             let x = cost_at(t, cost, ts);
             label_tree(
@@ -237,28 +252,27 @@ pub fn label(
                 x,
                 matched,
                 rows,
-                taken,
                 mates,
                 &mut tree_done,
-                &mut spare_done,
+                &mut live,
                 tree_label,
                 spare_label,
             );
             t += 1;
         } else {
-            left -= 1;
-            let x = cost_at(left, cost, ss);
+            let s = left - 1;
+            let x = cost_at(s, cost, ss);
             label_spare(
-                SpareRank(left),
+                SpareRank(s),
                 x,
                 rows,
-                taken,
                 mates,
                 &mut tree_done,
-                &mut spare_done,
+                &mut live,
                 tree_label,
                 spare_label,
             );
+            left = still_left(s, &live);
         }
     }
 }

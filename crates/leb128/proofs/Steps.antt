@@ -3,13 +3,14 @@
 use Prim.Native.Nat.{ℕ, zero, suc, _+_, _*_, _-_, _/_, _%_, _^_, _<_, _≤_}
 use native.Mathlib.Nat.{lt-of-lt-of-le, pow-le-pow-right}
 use native.Mathlib.Numerals.{add-one}
+use native.Mathlib.Decide.{decLt}
 use native.Mathlib.Omega.{arith}
 use mathlib.Core.Path.{_≡_, refl, ap, _∙_}
 use mathlib.Core.List.{List, [], _∷_}
 use lib.ListN.{length, drop, getD, drop-of-length-le}
 use lib.Seq.{drop-cons}
 use borrow.Author.Tests.{lt-ltb, le-ltb}
-use Rattle.leb128.specs.Number.{Bytes, encode, extend, decode, located, readAt}
+use Rattle.leb128.specs.Number.{Bytes, encode, extend, decode, located, readAt, Stands}
 use Rattle.leb128.specs.Number.Decoded.{number, none}
 use Rattle.leb128.specs.declared.Number.the-variants.{Value, Refused}
 use Rattle.leb128.specs.Laws.{bytes-drop, decode-bound, extend-zero, extend-more, located-value, located-refused}
@@ -98,3 +99,53 @@ read-bound k top s at v next l h e =
     lt-of-lt-of-le
     (decode-bound k (drop at s) v (r .0) (bytes-drop at s h) (r .1))
     (pow-le-pow-right (omega arith) l)
+
+-- Two bytes at most, of which the first says that another follows.
+module _ (s : List ℕ) (at : ℕ) (within : at < length s) (more : 128 ≤ getD s at 0) where
+  pub cut-off : length s ≤ at + 1 → readAt 2 s at ≡ Refused
+  cut-off l = read-refused 2 s at (λ e. omega (arith, e)) within more (read-end 1 s (at + 1) l)
+
+  module _ (inside : at + 1 < length s) where
+    pub too-long : 128 ≤ getD s (at + 1) 0 → readAt 2 s at ≡ Refused
+    too-long m =
+        read-refused 2 s at (λ e. omega (arith, e)) within more
+        (read-refused 1 s (at + 1) (λ e. omega (arith, e)) inside m (read-none 0 s (at + 1 + 1) (omega arith)))
+
+    module _ (ends : getD s (at + 1) 0 < 128) where
+      second : readAt 1 s (at + 1) ≡ Value (getD s (at + 1) 0) (at + 1 + 1)
+      second = read-last 1 s (at + 1) (λ e. omega (arith, e)) inside ends
+
+      pub not-shortest : getD s (at + 1) 0 ≡ 0 → readAt 2 s at ≡ Refused
+      not-shortest e = read-long 2 s at (λ e. omega (arith, e)) within more _ _ second e
+
+      pub two-bytes : (getD s (at + 1) 0 ≡ 0 → ⊥) → readAt 2 s at ≡ Value (getD s at 0 - 128 + 128 * getD s (at + 1) 0) (at + 1 + 1)
+      two-bytes e = read-value 2 s at (λ e. omega (arith, e)) within more _ _ second e
+
+-- Where a number of at most two bytes is known to stand, none of the tests can fail.
+module _ (s : List ℕ) (at : ℕ) (stands : Stands 2 s at) where
+  pub known-first : at < length s
+  known-first =
+      elim (decLt at (length s)) [
+        | yes l ↦ l
+        | no l ↦ absurd (stands (read-end 2 s at (omega arith)))
+      ]
+
+  module _ (more : 128 ≤ getD s at 0) where
+    pub known-second : at + 1 < length s
+    known-second =
+        elim (decLt (at + 1) (length s)) [
+          | yes l ↦ l
+          | no l ↦ absurd (stands (cut-off s at known-first more (omega arith)))
+        ]
+
+    pub known-ends : getD s (at + 1) 0 < 128
+    known-ends =
+        elim (decLt (getD s (at + 1) 0) 128) [
+          | yes l ↦ l
+          | no l ↦ absurd (stands (too-long s at known-first more known-second (omega arith)))
+        ]
+
+    pub known-value : readAt 2 s at ≡ Value (getD s at 0 - 128 + 128 * getD s (at + 1) 0) (at + 1 + 1)
+    known-value =
+        two-bytes s at known-first more known-second known-ends
+        (λ e. stands (not-shortest s at known-first more known-second known-ends e))

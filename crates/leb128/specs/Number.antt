@@ -2,6 +2,7 @@
 use Prim.Native.Nat.{ℕ, zero, suc, _+_, _*_, _-_, _/_, _%_, _<_}
 use mathlib.Core.Bool.{cond}
 use mathlib.Core.List.{List, [], _∷_}
+use mathlib.Core.Path.{_≡_}
 use lib.Dec.{ltb, eqb}
 use lib.ListN.{drop, getD}
 use Rattle.leb128.specs.declared.Number.{Number}
@@ -42,3 +43,7 @@ located at none = Refused
 
 abbrev pub readAt : ℕ → List ℕ → ℕ → Number
 readAt k s at = located at (decode k (drop at s))
+
+-- Some number of at most k bytes stands at a position.
+abbrev pub Stands : ℕ → List ℕ → ℕ → Type 0
+Stands k s at = readAt k s at ≡ Refused → ⊥

@@ -4,7 +4,8 @@ ghost use mathlib.Core.List.{[], _∷_};
 ghost use Prim.Native.Nat.{_+_, _≤_};
 ghost use lib.ListN.{length};
 ghost use lib.Seq.{sets};
-ghost use Rattle.leb128.specs.Number.{encode, readAt};
+ghost use Rattle.leb128.specs.Number.{encode, readAt, Stands};
+ghost use Rattle.leb128.specs.declared.Number.the-variants.{Value};
 
 // What stands at a position of a frame.
 pub enum Number {
@@ -12,6 +13,12 @@ pub enum Number {
     Value(u32, usize),
     // None in shortest form: cut off, too long or not the shortest.
     Refused,
+}
+
+// A number that is known to stand at a position, and the position behind it.
+pub struct Known {
+    pub value: u32,
+    pub next: usize,
 }
 
 // The number of at most `most` bytes that stands at `at`.
@@ -66,6 +73,26 @@ pub fn read_short(bytes: &[u8], at: usize) -> Number
     Number::Value(low - 128 + 128 * high, second + 1)
 }
 
+// The number of at most two bytes that is known to stand at `at`: the same as `read_short`, without its tests.
+pub fn read_known(bytes: &[u8], at: usize) -> Known
+    requires { ⌜ Stands 2 (now bytes) at ⌝ }
+    ensures { λ r. ⌜ readAt 2 (now (bytes .entry)) at ≡ Value (r .value) (r .next) ⌝ }
+{
+    let first = bytes[at] as u32;
+    if first < 128 {
+        return Known {
+            value: first,
+            next: at + 1,
+        };
+    }
+    let last = at + 1;
+    let group = bytes[last] as u32;
+    Known {
+        value: first - 128 + 128 * group,
+        next: last + 1,
+    }
+}
+
 // How many bytes `x` takes.
 pub fn size(x: u32, most: u32) -> usize
     ensures { λ r. ⌜ r ≡ length (encode most x) ⌝ }
@@ -77,6 +104,16 @@ pub fn size(x: u32, most: u32) -> usize
         return 1;
     }
     1 + size(x / 128, most - 1)
+}
+
+// How many bytes `x` takes, of at most two: the same as `size`, without a call for each byte.
+pub fn size_short(x: u32) -> usize
+    ensures { λ r. ⌜ r ≡ length (encode 2 x) ⌝ }
+{
+    if x < 128 {
+        return 1;
+    }
+    2
 }
 
 // Puts `x` at `at` and gives the position behind it.

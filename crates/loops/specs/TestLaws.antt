@@ -4,7 +4,7 @@ use Prim.Native.Nat.{ℕ, zero, suc, _+_, _<_}
 use native.Mathlib.Decide.{decLt}
 use native.Mathlib.Numerals.{add-one}
 use native.Mathlib.Omega.{arith}
-use mathlib.Core.Path.{_≡_, refl, subst}
+use mathlib.Core.Path.{_≡_, refl, subst, sym}
 use mathlib.Core.Logic.{_↔_, _≢_, _⊎_, inl, inr}
 use mathlib.Core.Bool.{Bool, true, false, cond, not, xor, _&&_, _||_}
 use Rattle.loops.specs.Loop.{choose, allBelow}
@@ -30,6 +30,12 @@ and-both a b p q = rw (p, q)
 pub and-miss : (a b : Bool) → (a && b) ≡ false → a ≡ true → b ≡ false
 and-miss true b h p = h
 and-miss false b h p = clash p refl
+
+-- Tests that pass together are the same.
+pub same-test : (a b : Bool) → (a ≡ true → b ≡ true) → (b ≡ true → a ≡ true) → a ≡ b
+same-test true b f g = sym (f refl)
+same-test false true f g = g refl
+same-test false false f g = refl
 
 pub or-either : (a b : Bool) → (a || b) ≡ true → (a ≡ true) ⊎ (b ≡ true)
 or-either true b h = inl refl

@@ -1,21 +1,25 @@
 -- One more tree rank: code and model look for the same ranks, and every way out of the code meets the model's.
 -- Assumes nothing.
-use Prim.Native.Nat.{ℕ, _≤_, _<_}
+use Prim.Native.Nat.{ℕ, _^_, _≤_, _<_}
 use native.Mathlib.Decide.{decLt}
 use native.Mathlib.Omega.{arith}
-use mathlib.Core.Path.{_≡_, refl, sym, ap, _∙_}
-use mathlib.Core.Bool.{Bool, true, false, not, _&&_, Bool·not-not}
+use mathlib.Core.Path.{_≡_, refl, sym, ap, ap₂, _∙_, fun-ext}
+use mathlib.Core.Logic.{inl, inr}
+use mathlib.Core.Bool.{Bool, true, false, not, _&&_, _||_, Bool·not-not}
 use mathlib.Core.List.{List}
 use lib.Dec.{ltb, eqb}
-use lib.ListN.{getD}
+use lib.ListN.{length, getD}
 use borrow.Author.Tests.{le-ltb, ltb-true, not-true}
 use Rattle.loops.specs.Loop.{choose, first}
-use Rattle.loops.specs.TestLaws.{and-first, and-second}
-use Rattle.loops.specs.FirstLaws.{First, first-is, first-found}
+use Rattle.loops.specs.TestLaws.{clash, and-first, and-second, and-both, same-test}
+use Rattle.loops.specs.FirstLaws.{First, first-is, first-found, some-of, some-at}
 use Rattle.bits.specs.Bit.{bit}
-use Rattle.sets.specs.Sets.{member}
-use Rattle.optimum.specs.Search.{Problem, Mates, Search, search, Progress, begun, goalOf, cheapestOf, worth, turned, augmentReached, augment}
-use Rattle.search.specs.State.{matesOf, stateOf, Below}
+use Rattle.bits.specs.BitLaws.{bit-past}
+use Rattle.sets.specs.Sets.{member, inRow, inSome}
+use Rattle.sets.specs.SetsLaws.{member-put}
+use Rattle.optimum.specs.Search.{Problem, Mates, Search, search, Progress, begun, coversSome, newTrees, goalOf, cheapestOf, worth, turned, augmentReached, augment}
+use Rattle.optimum.specs.SearchLaws.{Explored, Always, search-fails}
+use Rattle.search.specs.State.{matesOf, stateOf, Below, Rows}
 use Rattle.matching.specs.Progress.{progressOf, costAt, Holds, gain, Seekable, Sought, Ready, Augmented}
 
 -- The model's ways.
@@ -25,15 +29,15 @@ module _ (p : Problem) (t : ℕ) (pr : Progress) where
   augment-none h = rw h
 
   augment-tried : worth p t (cheapestOf p pr) ≡ true → (st : Search) → search p (cheapestOf p pr) t (begun pr) ≡ st
-      → augment p t pr ≡ choose (st .met) (λ _. turned pr st) (λ _. augmentReached p t pr st)
+      → augment p t pr ≡ choose (st .met) (λ _. turned pr (cheapestOf p pr) st) (λ _. augmentReached p t pr st)
   unfolding augment
   augment-tried h st e = rw (h, e)
 
-  reached-on : (st : Search) → worth p t (goalOf p pr st) ≡ true → augmentReached p t pr st ≡ turned pr (search p (goalOf p pr st) t (begun pr))
+  reached-on : (st : Search) → worth p t (goalOf p pr st) ≡ true → augmentReached p t pr st ≡ turned pr (goalOf p pr st) (search p (goalOf p pr st) t (begun pr))
   reached-on st h = rw h
 
   reached-off : (st : Search) → worth p t (goalOf p pr st) ≡ false
-      → augmentReached p t pr st ≡ record { mates = pr .mates; treeDead = st .treeSeen; spareDead = st .spareSeen }
+      → augmentReached p t pr st ≡ record { mates = pr .mates; treeDead = st .treeSeen; spareLive = λ s. not (st .spareSeen s) }
   reached-off st h = rw h
 
 -- A goal that is worth it is a spare rank.
@@ -50,7 +54,7 @@ module _
     (t : ℕ)
     (l : t < p .trees)
     (P Q : ℕ → Bool)
-    (same : (s : ℕ) → s < 256 → P s ≡ Q s)
+    (same : (s : ℕ) → s < p .spares → P s ≡ Q s)
     (g : ℕ)
     (lowest : First 256 P g)
   where
@@ -58,15 +62,15 @@ module _
     found k =
         first-found (record {
           within = omega arith;
-          before = λ s m. sym (same s (omega (arith, lowest .within))) ∙ lowest .before s m;
-          hit = λ m. sym (same g (omega (arith, h .rows-are .few))) ∙ lowest .hit (omega (arith, h .rows-are .few));
+          before = λ s m. sym (same s (omega arith)) ∙ lowest .before s m;
+          hit = λ m. sym (same g k) ∙ lowest .hit (omega (arith, h .rows-are .few));
         })
 
     none : p .spares ≤ g → first (p .spares) Q ≡ p .spares
     none k =
         first-found (record {
           within = omega arith;
-          before = λ s m. sym (same s (omega (arith, h .rows-are .few))) ∙ lowest .before s (omega arith);
+          before = λ s m. sym (same s m) ∙ lowest .before s (omega arith);
           hit = λ m. absurd (omega arith);
         })
 
@@ -82,155 +86,206 @@ module _
     found-worth : gain spares cost ts ss t g ≡ true → first (p .spares) Q ≡ g
     found-worth w = found (rw (← h .spares-are) at (gain-within t g spares cost ts ss w))
 
+-- What covers some tree rank that is newly seen: by the rows, and by the problem.
+module _
+    (p : Problem)
+    (rows : List ℕ)
+    (are : Rows p rows)
+    (T : ℕ → Bool)
+    (below : (x : ℕ) → T x ≡ true → (x < p .trees) × (x < 64))
+    (s : ℕ)
+    (l : s < p .spares)
+  where
+    some-same : inSome rows T s ≡ coversSome p T s
+    some-same = same-test _ _ forth back
+      where
+        forth : inSome rows T s ≡ true → coversSome p T s ≡ true
+        forth h =
+            let (x, b, both) = some-at 64 (λ x. T x && inRow rows x s) h in
+            let k : x < p .trees = below x (and-first _ _ both) .0 in
+            some-of (p .trees) (λ x. T x && p .covers x s) x k (and-both (T x) (p .covers x s) (and-first _ _ both) (are .covered x s k l ∙ and-second (T x) _ both))
+
+        back : coversSome p T s ≡ true → inSome rows T s ≡ true
+        back h =
+            let (x, k, both) = some-at (p .trees) (λ x. T x && p .covers x s) h in
+            some-of 64 (λ x. T x && inRow rows x s) x (below x (and-first _ _ both) .1) (and-both (T x) (inRow rows x s) (and-first _ _ both) (sym (are .covered x s k l) ∙ and-second (T x) _ both))
+
 module _
     (t spares : ℕ)
     (cost ts ss rows mates taken : List ℕ)
     (trees : ℕ)
-    (dead : List ℕ)
-    (r : Ready t spares ts ss mates taken dead)
+    (live : List ℕ)
+    (r : Ready t spares ts ss mates taken live)
     (c : ℕ)
-    (lowest : c ≡ first 256 (λ s. not (member dead s) && not (member taken s)))
+    (lowest : c ≡ first 256 (λ s. not (member taken s)))
   where
     abbrev Out : List ℕ → List ℕ → ℕ → List ℕ → Type 0
-    Out = Augmented t spares cost ts ss rows mates trees dead
+    Out = Augmented t spares cost ts ss rows mates trees live
 
     abbrev pr : Progress
-    pr = progressOf mates trees dead
+    pr = progressOf mates trees live
 
-    cheapest-first : First 256 (λ s. not (member dead s) && not (member taken s)) c
-    cheapest-first = rw lowest (first-is 256 (λ s. not (member dead s) && not (member taken s)))
+    cheapest-first : First 256 (λ s. not (member taken s)) c
+    cheapest-first = rw lowest (first-is 256 (λ s. not (member taken s)))
 
-    cheapest-same : (s : ℕ) → s < 256 → (not (member dead s) && not (member taken s)) ≡ (not (member dead s) && eqb (getD mates s 0) 0)
-    cheapest-same s k = rw (r .taken-are s k, Bool·not-not (eqb (getD mates s 0) 0))
+    cheapest-same : (p : Problem) → Holds p spares cost ts ss rows → (s : ℕ) → s < p .spares → not (member taken s) ≡ eqb (getD mates s 0) 0
+    cheapest-same p h s k = rw (r .taken-are s (omega (arith, h .rows-are .few)), Bool·not-not (eqb (getD mates s 0) 0))
 
     -- Even the cheapest costs too much, or there is none.
-    pub augmented-none : gain spares cost ts ss t c ≡ false → Out mates taken trees dead
+    pub augmented-none : gain spares cost ts ss t c ≡ false → Out mates taken trees live
     augmented-none off =
         record {
           mates-length = r .mates-length;
           taken-length = r .taken-length;
-          dead-length = r .dead-length;
+          live-length = r .live-length;
           below = λ n k b. b;
           taken-are = r .taken-are;
-          equal = λ p h b l. sym (augment-none p t pr (worth-same p spares cost ts ss rows h t l _ _ cheapest-same c cheapest-first ∙ off));
+          equal = λ p h b l. sym (augment-none p t pr (worth-same p spares cost ts ss rows h t l _ _ (cheapest-same p h) c cheapest-first ∙ off));
         }
 
     module _ (on : gain spares cost ts ss t c ≡ true) where
-      cheapest-within : c < 256
-      cheapest-within = omega (arith, gain-within t c spares cost ts ss on, r .few)
-
-      pub cheapest-seekable : Seekable t c mates taken dead
+      pub cheapest-seekable : Seekable t c mates taken live
       cheapest-seekable =
           record {
-            ready = record {
-              rank = r .rank;
-              mates-length = r .mates-length;
-              seen-length = r .dead-length;
-              below = r .below;
-              taken-are = r .taken-are;
-            };
+            ready = record { rank = r .rank; mates-length = r .mates-length; live-length = r .live-length; below = r .below };
             taken-length = r .taken-length;
-            within = cheapest-within;
-            unseen = not-true (member dead c) (and-first (not (member dead c)) (not (member taken c)) (cheapest-first .hit cheapest-within));
+            taken-are = r .taken-are;
+            within = omega (arith, gain-within t c spares cost ts ss on, r .few);
           }
 
       module _
           (mates₁ taken₁ : List ℕ)
           (trees₁ : ℕ)
-          (dead₁ : List ℕ)
+          (live₁ : List ℕ)
           (met : Bool)
-          (first-search : Sought t c rows mates trees dead mates₁ taken₁ trees₁ dead₁ met)
+          (first-search : Sought t c rows mates trees live mates₁ taken₁ trees₁ live₁ met)
         where
+          cheapest-is : (p : Problem) → Holds p spares cost ts ss rows → t < p .trees → cheapestOf p pr ≡ c
+          cheapest-is p h l = found-worth p spares cost ts ss rows h t l _ _ (cheapest-same p h) c cheapest-first on
+
           tried : (p : Problem) → Holds p spares cost ts ss rows → Below (p .trees) mates → t < p .trees
-              → augment p t pr ≡ choose met (λ _. progressOf mates₁ trees dead) (λ _. augmentReached p t pr (stateOf mates₁ trees₁ dead₁ met))
+              → augment p t pr
+              ≡ choose met (λ _. turned pr (cheapestOf p pr) (stateOf mates₁ trees₁ live₁ met)) (λ _. augmentReached p t pr (stateOf mates₁ trees₁ live₁ met))
           tried p h b l =
-              augment-tried p t pr (worth-same p spares cost ts ss rows h t l _ _ cheapest-same c cheapest-first ∙ on) (stateOf mates₁ trees₁ dead₁ met)
-              (ap (λ (j : ℕ). search p j t (begun pr)) (found-worth p spares cost ts ss rows h t l _ _ cheapest-same c cheapest-first on)
-              ∙ sym (first-search .equal p (h .rows-are) b l))
+              augment-tried p t pr (worth-same p spares cost ts ss rows h t l _ _ (cheapest-same p h) c cheapest-first ∙ on) (stateOf mates₁ trees₁ live₁ met)
+              (ap (λ (j : ℕ). search p j t (begun pr)) (cheapest-is p h l) ∙ sym (first-search .equal p (h .rows-are) b l))
 
           -- The cheapest has been met.
-          pub augmented-met : met ≡ true → Out mates₁ taken₁ trees dead
-          augmented-met m =
+          pub augmented-met : met ≡ true → (live′ : List ℕ) → ((j : ℕ) → member live′ j ≡ (member live j || eqb c j)) → length live′ ≡ 4 → Out mates₁ taken₁ trees live′
+          augmented-met m live′ more size =
               record {
                 mates-length = first-search .mates-length;
                 taken-length = first-search .taken-length;
-                dead-length = r .dead-length;
+                live-length = size;
                 below = first-search .below;
                 taken-are = first-search .taken-are;
-                equal = λ p h b l. sym (rw m at (tried p h b l));
+                equal = λ p h b l.
+                    ap (λ (f : ℕ → Bool). record { mates = matesOf mates₁; treeDead = bit trees; spareLive = f }) (member-put live live′ c more)
+                    ∙ ap (λ (j : ℕ). turned pr j (stateOf mates₁ trees₁ live₁ true)) (sym (cheapest-is p h l))
+                    ∙ sym (rw m at (tried p h b l));
               }
 
           -- It has not: the goal is the cheapest one reached.
           module _
               (m : met ≡ false)
+              (news : ℕ)
+              (word : news < 2 ^ 64)
+              (news-are : (j : ℕ) → bit news j ≡ (bit trees₁ j && not (bit trees j)))
               (g : ℕ)
-              (goal : g ≡ first 256 (λ s. member dead₁ s && not (member dead s) && not (member taken₁ s)))
+              (goal : g ≡ first 256 (λ s. inSome rows (bit news) s && not (member taken₁ s)))
             where
               same : matesOf mates₁ ≡ matesOf mates
               same = first-search .same m
 
-              goal-first : First 256 (λ s. member dead₁ s && not (member dead s) && not (member taken₁ s)) g
-              goal-first = rw goal (first-is 256 (λ s. member dead₁ s && not (member dead s) && not (member taken₁ s)))
+              goal-first : First 256 (λ s. inSome rows (bit news) s && not (member taken₁ s)) g
+              goal-first = rw goal (first-is 256 (λ s. inSome rows (bit news) s && not (member taken₁ s)))
 
-              goal-same : (s : ℕ) → s < 256
-                  → (member dead₁ s && not (member dead s) && not (member taken₁ s)) ≡ (member dead₁ s && not (member dead s) && eqb (getD mates s 0) 0)
-              goal-same s k =
-                  rw (first-search .taken-are s k, Bool·not-not (eqb (getD mates₁ s 0) 0), ap (λ (f : Mates). f s) same)
+              -- The tree ranks newly seen are tree ranks of the problem.
+              new-below : (p : Problem) → Rows p rows → Below (p .trees) mates → t < p .trees → (x : ℕ) → bit news x ≡ true → (x < p .trees) × (x < 64)
+              new-below p are b l x q = (elim (explored .grown .new-tree x seen) [ inl h ↦ clash h fresh | inr h ↦ h .holds ], small)
+                where
+                  st : Search
+                  st = search p c t (stateOf mates trees live false)
+
+                  is : stateOf mates₁ trees₁ live₁ false ≡ st
+                  is = ap (stateOf mates₁ trees₁ live₁) (sym m) ∙ first-search .equal p are b l
+
+                  explored : Explored p c (matesOf mates) (λ x. x < p .trees) Always (stateOf mates trees live false) t st
+                  explored =
+                      search-fails p c (stateOf mates trees live false) (λ x. x < p .trees) Always
+                      record { to-spare = λ x s k o e f. tt; to-mate = λ s x k o e f. omega (arith, b s, e) }
+                      (λ s x k e. omega (arith, b s, e)) t l refl (sym (ap (λ (st : Search). st .met) is))
+
+                  seen : st .treeSeen x ≡ true
+                  seen = sym (ap (λ (st : Search). st .treeSeen x) is) ∙ and-first _ _ (sym (news-are x) ∙ q)
+
+                  fresh : bit trees x ≡ false
+                  fresh = not-true _ (and-second (bit trees₁ x) _ (sym (news-are x) ∙ q))
+
+                  small : x < 64
+                  small = elim (decLt x 64) [ yes k ↦ k | no k ↦ clash q (bit-past 64 news x word (omega arith)) ]
+
+              goal-same : (p : Problem) → Holds p spares cost ts ss rows → Below (p .trees) mates → t < p .trees → (s : ℕ) → s < p .spares
+                  → (inSome rows (bit news) s && not (member taken₁ s)) ≡ (coversSome p (newTrees pr (stateOf mates₁ trees₁ live₁ false)) s && eqb (getD mates s 0) 0)
+              goal-same p h b l s k =
+                  rw (
+                    first-search .taken-are s (omega (arith, h .rows-are .few)),
+                    Bool·not-not (eqb (getD mates₁ s 0) 0),
+                    ap (λ (f : Mates). f s) same,
+                    some-same p rows (h .rows-are) (bit news) (new-below p (h .rows-are) b l) s k,
+                  )
+                  (ap (λ (T : ℕ → Bool). coversSome p T s && eqb (getD mates s 0) 0) (fun-ext news-are))
 
               failed : (p : Problem) → Holds p spares cost ts ss rows → Below (p .trees) mates → t < p .trees
-                  → augment p t pr ≡ augmentReached p t pr (stateOf mates₁ trees₁ dead₁ false)
+                  → augment p t pr ≡ augmentReached p t pr (stateOf mates₁ trees₁ live₁ false)
               failed p h b l = rw m at (tried p h b l)
 
-              pub augmented-off : gain spares cost ts ss t g ≡ false → Out mates₁ taken₁ trees₁ dead₁
+              pub augmented-off : gain spares cost ts ss t g ≡ false → Out mates₁ taken₁ trees₁ live₁
               augmented-off off =
                   record {
                     mates-length = first-search .mates-length;
                     taken-length = first-search .taken-length;
-                    dead-length = first-search .seen-length;
+                    live-length = first-search .live-length;
                     below = first-search .below;
                     taken-are = first-search .taken-are;
                     equal = λ p h b l.
-                        ap (λ (f : Mates). record { mates = f; treeDead = bit trees₁; spareDead = member dead₁ }) same
-                        ∙ sym (failed p h b l ∙ reached-off p t pr (stateOf mates₁ trees₁ dead₁ false)
-                        (worth-same p spares cost ts ss rows h t l _ _ goal-same g goal-first ∙ off));
+                        ap₂ (λ (f : Mates) (v : ℕ → Bool). record { mates = f; treeDead = bit trees₁; spareLive = v }) same (fun-ext (λ s. sym (Bool·not-not (member live₁ s))))
+                        ∙ sym (failed p h b l ∙ reached-off p t pr (stateOf mates₁ trees₁ live₁ false)
+                        (worth-same p spares cost ts ss rows h t l _ _ (goal-same p h b l) g goal-first ∙ off));
                   }
 
               module _ (gains : gain spares cost ts ss t g ≡ true) where
-                goal-within : g < 256
-                goal-within = omega (arith, gain-within t g spares cost ts ss gains, r .few)
-
-                pub goal-seekable : Seekable t g mates₁ taken₁ dead
+                pub goal-seekable : Seekable t g mates₁ taken₁ live
                 goal-seekable =
                     record {
                       ready = record {
                         rank = r .rank;
                         mates-length = first-search .mates-length;
-                        seen-length = r .dead-length;
+                        live-length = r .live-length;
                         below = first-search .below 64 (r .rank) (r .below);
-                        taken-are = first-search .taken-are;
                       };
                       taken-length = first-search .taken-length;
-                      within = goal-within;
-                      unseen =
-                          not-true (member dead g)
-                          (and-second (member dead₁ g) (not (member dead g))
-                          (and-first (member dead₁ g && not (member dead g)) (not (member taken₁ g)) (goal-first .hit goal-within)));
+                      taken-are = first-search .taken-are;
+                      within = omega (arith, gain-within t g spares cost ts ss gains, r .few);
                     }
 
-                pub augmented-on : (mates₂ taken₂ : List ℕ) (trees₂ : ℕ) (dead₂ : List ℕ) (met₂ : Bool) → Sought t g rows mates₁ trees dead mates₂ taken₂ trees₂ dead₂ met₂
-                    → Out mates₂ taken₂ trees dead
-                augmented-on mates₂ taken₂ trees₂ dead₂ met₂ second-search =
+                pub augmented-on : (mates₂ taken₂ : List ℕ) (trees₂ : ℕ) (live₂ : List ℕ) (met₂ : Bool) → Sought t g rows mates₁ trees live mates₂ taken₂ trees₂ live₂ met₂
+                    → (live′ : List ℕ) → ((j : ℕ) → member live′ j ≡ (member live j || eqb g j)) → length live′ ≡ 4
+                    → Out mates₂ taken₂ trees live′
+                augmented-on mates₂ taken₂ trees₂ live₂ met₂ second-search live′ more size =
                     record {
                       mates-length = second-search .mates-length;
                       taken-length = second-search .taken-length;
-                      dead-length = r .dead-length;
+                      live-length = size;
                       below = λ n k b. second-search .below n k (first-search .below n k b);
                       taken-are = second-search .taken-are;
                       equal = λ p h b l.
-                          ap (turned pr)
+                          let is = found-worth p spares cost ts ss rows h t l _ _ (goal-same p h b l) g goal-first gains in
+                          ap (λ (f : ℕ → Bool). record { mates = matesOf mates₂; treeDead = bit trees; spareLive = f }) (member-put live live′ g more)
+                          ∙ ap (turned pr g)
                           (second-search .equal p (h .rows-are) (first-search .below (p .trees) l b) l
-                          ∙ ap (λ (f : Mates). search p g t (record { mates = f; treeSeen = bit trees; spareSeen = member dead; met = false })) same
-                          ∙ ap (λ (j : ℕ). search p j t (begun pr)) (sym (found-worth p spares cost ts ss rows h t l _ _ goal-same g goal-first gains)))
-                          ∙ sym (failed p h b l ∙ reached-on p t pr (stateOf mates₁ trees₁ dead₁ false)
-                          (worth-same p spares cost ts ss rows h t l _ _ goal-same g goal-first ∙ gains));
+                          ∙ ap (λ (f : Mates). search p g t (record { mates = f; treeSeen = bit trees; spareSeen = λ s. not (member live s); met = false })) same)
+                          ∙ ap (λ (j : ℕ). turned pr j (search p j t (begun pr))) (sym is)
+                          ∙ sym (failed p h b l ∙ reached-on p t pr (stateOf mates₁ trees₁ live₁ false)
+                          (worth-same p spares cost ts ss rows h t l _ _ (goal-same p h b l) g goal-first ∙ gains));
                     }

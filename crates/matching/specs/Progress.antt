@@ -12,9 +12,9 @@ use Rattle.optimum.specs.Search.{Problem, search, Progress, augment, matching}
 use Rattle.search.specs.State as S
 use Rattle.search.specs.State.{matesOf, stateOf, Below, Taken, Rows}
 
--- The mates, and the ranks that searches which failed have seen.
+-- The mates, the tree ranks that searches which failed have seen, and the matched spare ranks that they have not.
 abbrev pub progressOf : List ℕ → ℕ → List ℕ → Progress
-progressOf mates trees spares = record { mates = matesOf mates; treeDead = bit trees; spareDead = member spares }
+progressOf mates trees live = record { mates = matesOf mates; treeDead = bit trees; spareLive = member live }
 
 -- The cost of a rank: ranks lead to edges, and edges to costs.
 abbrev pub costAt : List ℕ → List ℕ → ℕ → ℕ
@@ -35,47 +35,47 @@ pub record Holds (p : Problem) (spares : ℕ) (cost ts ss rows : List ℕ) : Typ
 abbrev pub gain : ℕ → List ℕ → List ℕ → List ℕ → ℕ → ℕ → Bool
 gain spares cost ts ss t goal = ltb goal spares && ltb (costAt cost ss goal) (costAt cost ts t)
 
--- What matching tree rank t to a goal needs: the goal has not been seen.
-pub record Seekable (t goal : ℕ) (mates taken seen : List ℕ) : Type 0 where
-  pub ready : S.Ready t taken mates seen
+-- What matching tree rank t to a goal needs.
+pub record Seekable (t goal : ℕ) (mates taken live : List ℕ) : Type 0 where
+  pub ready : S.Ready t mates live
   pub taken-length : length taken ≡ 4
+  pub taken-are : Taken mates taken
   pub within : goal < 256
-  pub unseen : member seen goal ≡ false
 
 -- What it leaves: sizes, the model's state, and the mates as they were if the goal was not met.
-pub record Sought (t goal : ℕ) (rows mates : List ℕ) (trees : ℕ) (seen mates′ taken′ : List ℕ) (trees′ : ℕ) (seen′ : List ℕ) (met : Bool) : Type 0 where
+pub record Sought (t goal : ℕ) (rows mates : List ℕ) (trees : ℕ) (live mates′ taken′ : List ℕ) (trees′ : ℕ) (live′ : List ℕ) (met : Bool) : Type 0 where
   pub mates-length : length mates′ ≡ 256
   pub taken-length : length taken′ ≡ 4
-  pub seen-length : length seen′ ≡ 4
+  pub live-length : length live′ ≡ 4
   pub below : (n : ℕ) → t < n → Below n mates → Below n mates′
   pub taken-are : Taken mates′ taken′
   pub same : met ≡ false → matesOf mates′ ≡ matesOf mates
   pub equal :
       (p : Problem) → Rows p rows → Below (p .trees) mates → t < p .trees
-      → stateOf mates′ trees′ seen′ met ≡ search p goal t (stateOf mates trees seen false)
+      → stateOf mates′ trees′ live′ met ≡ search p goal t (stateOf mates trees live false)
 
 -- What matching one more tree rank needs.
-pub record Ready (t spares : ℕ) (ts ss mates taken dead : List ℕ) : Type 0 where
+pub record Ready (t spares : ℕ) (ts ss mates taken live : List ℕ) : Type 0 where
   pub rank : t < 64
   pub few : spares ≤ 256
   pub tree-edge : getD ts t 0 < 256
   pub spare-edges : Edges spares ss
   pub mates-length : length mates ≡ 256
   pub taken-length : length taken ≡ 4
-  pub dead-length : length dead ≡ 4
+  pub live-length : length live ≡ 4
   pub below : Below 64 mates
   pub taken-are : Taken mates taken
 
 -- What it leaves: sizes, and the model's progress.
-pub record Augmented (t spares : ℕ) (cost ts ss rows mates : List ℕ) (trees : ℕ) (dead mates′ taken′ : List ℕ) (trees′ : ℕ) (dead′ : List ℕ) : Type 0 where
+pub record Augmented (t spares : ℕ) (cost ts ss rows mates : List ℕ) (trees : ℕ) (live mates′ taken′ : List ℕ) (trees′ : ℕ) (live′ : List ℕ) : Type 0 where
   pub mates-length : length mates′ ≡ 256
   pub taken-length : length taken′ ≡ 4
-  pub dead-length : length dead′ ≡ 4
+  pub live-length : length live′ ≡ 4
   pub below : (n : ℕ) → t < n → Below n mates → Below n mates′
   pub taken-are : Taken mates′ taken′
   pub equal :
       (p : Problem) → Holds p spares cost ts ss rows → Below (p .trees) mates → t < p .trees
-      → progressOf mates′ trees′ dead′ ≡ augment p t (progressOf mates trees dead)
+      → progressOf mates′ trees′ live′ ≡ augment p t (progressOf mates trees live)
 
 -- What building a matching needs: room for it, and nothing in it yet.
 pub record Buildable (trees spares : ℕ) (ts ss mates taken : List ℕ) : Type 0 where
@@ -91,6 +91,7 @@ pub record Buildable (trees spares : ℕ) (ts ss mates taken : List ℕ) : Type 
 -- What it leaves: the model's matching, and the set of its spare ranks.
 pub record Built (trees spares : ℕ) (cost ts ss rows mates taken : List ℕ) : Type 0 where
   pub mates-length : length mates ≡ 256
+  pub taken-length : length taken ≡ 4
   pub below : Below trees mates
   pub taken-are : Taken mates taken
   pub equal : (p : Problem) → p .trees ≡ trees → Holds p spares cost ts ss rows → matesOf mates ≡ matching p

@@ -50,22 +50,22 @@ module _
     (t goal : ℕ)
     (rows mates taken : List ℕ)
     (trees : ℕ)
-    (seen : List ℕ)
-    (able : Seekable t goal mates taken seen)
+    (live : List ℕ)
+    (able : Seekable t goal mates taken live)
     (mates′ : List ℕ)
     (trees′ : ℕ)
-    (seen′ : List ℕ)
+    (live′ : List ℕ)
     (met : Bool)
-    (tried : TreeTried t goal rows mates trees seen mates′ trees′ seen′ met)
+    (tried : TreeTried t goal rows mates trees live mates′ trees′ live′ met)
   where
     abbrev p : Problem
     p = rowsProblem rows
 
     abbrev start : Search
-    start = stateOf mates trees seen false
+    start = stateOf mates trees live false
 
     -- The rows alone tell what is met.
-    alone : stateOf mates′ trees′ seen′ met ≡ search p goal t start
+    alone : stateOf mates′ trees′ live′ met ≡ search p goal t start
     alone = tried .equal p 64 (rows-problem rows) (able .ready .below) (able .ready .rank) (omega arith)
 
     met-alone : search p goal t start .met ≡ met
@@ -76,39 +76,39 @@ module _
 
     module _ (b : Bool) (is : met ≡ b) where
       sought : (taken′ : List ℕ) → length taken′ ≡ 4 → Taken mates′ taken′ → (b ≡ false → matesOf mates′ ≡ matesOf mates)
-          → Sought t goal rows mates trees seen mates′ taken′ trees′ seen′ b
+          → Sought t goal rows mates trees live mates′ taken′ trees′ live′ b
       sought taken′ e are same =
           record {
             mates-length = tried .mates-length;
             taken-length = e;
-            seen-length = tried .seen-length;
+            live-length = tried .live-length;
             below = λ n k c.
-                tree-reached t goal rows mates trees seen mates′ trees′ seen′ met (able .ready .rank) (able .ready .below) tried n k c .below;
+                tree-reached t goal rows mates trees live mates′ trees′ live′ met (able .ready .rank) (able .ready .below) tried n k c .below;
             taken-are = are;
             same = same;
-            equal = λ q r c l. ap (stateOf mates′ trees′ seen′) (sym is) ∙ tried .equal q (q .trees) r c l (omega arith);
+            equal = λ q r c l. ap (stateOf mates′ trees′ live′) (sym is) ∙ tried .equal q (q .trees) r c l (omega arith);
           }
 
     pub sought-met : met ≡ true → (taken′ : List ℕ) → ((j : ℕ) → member taken′ j ≡ (member taken j || eqb goal j)) → length taken′ ≡ 4
-        → Sought t goal rows mates trees seen mates′ taken′ trees′ seen′ true
+        → Sought t goal rows mates trees live mates′ taken′ trees′ live′ true
     unfolding isMatched
     sought-met h taken′ more e = sought true h taken′ e now-taken (λ q. clash refl q)
       where
         path : AugmentingPath p goal (matesOf mates) (matesOf mates) t (search p goal t start .mates)
         path =
-            search-turns p goal start Always Always (kept-always p start) mate-below t tt (λ _. able .unseen) refl (met-alone ∙ h)
+            search-turns p goal start Always Always (kept-always p start) mate-below t tt refl (met-alone ∙ h)
 
         now-taken : Taken mates′ taken′
         now-taken s k =
-            more s ∙ rw (able .ready .taken-are s k) (sym (path-matched path s))
+            more s ∙ rw (able .taken-are s k) (sym (path-matched path s))
             ∙ ap (λ (st : Search). not (eqb (st .mates s) 0)) (sym alone)
 
-    pub sought-unmet : met ≡ false → Sought t goal rows mates trees seen mates′ taken trees′ seen′ false
-    sought-unmet h = sought false h taken (able .taken-length) (taken-same mates mates′ same taken (able .ready .taken-are)) (λ _. same)
+    pub sought-unmet : met ≡ false → Sought t goal rows mates trees live mates′ taken trees′ live′ false
+    sought-unmet h = sought false h taken (able .taken-length) (taken-same mates mates′ same taken (able .taken-are)) (λ _. same)
       where
         failed : Explored p goal (matesOf mates) Always Always start t (search p goal t start)
         failed =
-            search-fails p goal start Always Always (kept-always p start) mate-below t tt (λ _. able .unseen) refl (met-alone ∙ h)
+            search-fails p goal start Always Always (kept-always p start) mate-below t tt refl (met-alone ∙ h)
 
         same : matesOf mates′ ≡ matesOf mates
         same = ap (λ (st : Search). st .mates) alone ∙ failed .grown .mates

@@ -34,12 +34,12 @@ fn seek(
     mates: &mut [u32; 256],
     taken: &mut [u64; 4],
     tree_seen: &mut u64,
-    spare_seen: &mut [u64; 4],
+    live: &mut [u64; 4],
 ) -> bool
-    requires { ⌜ Seekable (t .0) (goal .0) (now mates) (now taken) (now «spare_seen») ⌝ }
-    ensures { λ r. ⌜ Sought (t .0) (goal .0) (now (rows .entry)) (now (mates .entry)) (now («tree_seen» .entry)) (now («spare_seen» .entry)) (now (mates .exit)) (now (taken .exit)) (now («tree_seen» .exit)) (now («spare_seen» .exit)) r ⌝ }
+    requires { ⌜ Seekable (t .0) (goal .0) (now mates) (now taken) (now live) ⌝ }
+    ensures { λ r. ⌜ Sought (t .0) (goal .0) (now (rows .entry)) (now (mates .entry)) (now («tree_seen» .entry)) (now (live .entry)) (now (mates .exit)) (now (taken .exit)) (now («tree_seen» .exit)) (now (live .exit)) r ⌝ }
 {
-    if search::try_tree(t, goal, rows, taken, mates, tree_seen, spare_seen) {
+    if search::try_tree(t, goal, rows, mates, tree_seen, live) {
         sets::insert(taken, goal.0);
         return true;
     }
@@ -47,7 +47,7 @@ fn seek(
 }
 
 // Matches tree rank `t`, if the cheapest unmatched spare rank that alternating paths lead to costs less. The cheapest of
-// all is tried first; if paths lead to none that gains, what the search has seen stays marked for good.
+// all is tried first; if paths lead to none that gains, what the search has seen is given up for good.
 fn augment(
     t: TreeRank,
     spares: u32,
@@ -58,17 +58,17 @@ fn augment(
     mates: &mut [u32; 256],
     taken: &mut [u64; 4],
     tree_dead: &mut u64,
-    spare_dead: &mut [u64; 4],
+    live: &mut [u64; 4],
 )
-    requires { ⌜ Ready (t .0) spares (now ts) (now ss) (now mates) (now taken) (now «spare_dead») ⌝ }
-    ensures { λ r. ⌜ Augmented (t .0) spares (now (cost .entry)) (now (ts .entry)) (now (ss .entry)) (now (rows .entry)) (now (mates .entry)) (now («tree_dead» .entry)) (now («spare_dead» .entry)) (now (mates .exit)) (now (taken .exit)) (now («tree_dead» .exit)) (now («spare_dead» .exit)) ⌝ }
+    requires { ⌜ Ready (t .0) spares (now ts) (now ss) (now mates) (now taken) (now live) ⌝ }
+    ensures { λ r. ⌜ Augmented (t .0) spares (now (cost .entry)) (now (ts .entry)) (now (ss .entry)) (now (rows .entry)) (now (mates .entry)) (now («tree_dead» .entry)) (now (live .entry)) (now (mates .exit)) (now (taken .exit)) (now («tree_dead» .exit)) (now (live .exit)) ⌝ }
 {
-    let cheapest = sets::lowest_open(spare_dead, taken);
+    let cheapest = sets::lowest_free(taken);
     if !gains(t, SpareRank(cheapest), spares, cost, ts, ss) {
         return;
     }
     let mut tree_seen = *tree_dead;
-    let mut spare_seen = *spare_dead;
+    let mut left = *live;
     if seek(
         t,
         SpareRank(cheapest),
@@ -76,14 +76,16 @@ fn augment(
         mates,
         taken,
         &mut tree_seen,
-        &mut spare_seen,
+        &mut left,
     ) {
+        sets::insert(live, cheapest);
         return;
     }
-    let goal = sets::lowest_fresh(&spare_seen, spare_dead, taken);
+    let new_trees = bits::less(tree_seen, *tree_dead);
+    let goal = sets::lowest_covering(rows, new_trees, taken);
     if gains(t, SpareRank(goal), spares, cost, ts, ss) {
         tree_seen = *tree_dead;
-        spare_seen = *spare_dead;
+        left = *live;
         seek(
             t,
             SpareRank(goal),
@@ -91,12 +93,13 @@ fn augment(
             mates,
             taken,
             &mut tree_seen,
-            &mut spare_seen,
+            &mut left,
         );
+        sets::insert(live, goal);
         return;
     }
     *tree_dead = tree_seen;
-    *spare_dead = spare_seen;
+    *live = left;
 }
 
 // Builds the matching in `mates`, which is empty, and the set of its spare ranks: every tree rank in turn.
@@ -114,7 +117,7 @@ pub fn build(
     ensures { λ r. ⌜ Built trees spares (now (cost .entry)) (now (ts .entry)) (now (ss .entry)) (now (rows .entry)) (now (mates .exit)) (now (taken .exit)) ⌝ }
 {
     let mut tree_dead = 0u64;
-    let mut spare_dead = [0u64; 4];
+    let mut live = [0u64; 4];
     let mut t = 0;
     while t < trees {
         augment(
@@ -127,7 +130,7 @@ pub fn build(
             mates,
             taken,
             &mut tree_dead,
-            &mut spare_dead,
+            &mut live,
         );
         t += 1;
     }

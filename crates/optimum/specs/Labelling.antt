@@ -3,17 +3,17 @@
 use Prim.Native.Nat.{ℕ, zero, suc, _+_, _≤_, _<_}
 use native.Mathlib.Decide.{ℕ-discrete}
 use native.Mathlib.Omega.{arith}
-use mathlib.Core.Path.{_≡_, refl}
-use mathlib.Core.Logic.{_⊎_, inl, inr}
+use mathlib.Core.Path.{_≡_, refl, _∙_}
+use mathlib.Core.Logic.{_≢_, _⊎_, inl, inr}
 use mathlib.Core.Bool.{Bool, true, false, cond, not, _&&_}
 use lib.Dec.{ltb, leb}
-use borrow.Author.Tests.{ltb-true, lt-ltb, leb-true, leb-false}
+use borrow.Author.Tests.{eq-eqb, eqb-true, ltb-true, lt-ltb, leb-true, leb-false}
 use Rattle.loops.specs.TestLaws.{truth, clash, and-first, and-second, and-miss, or-either, or-neither, choose-both}
 use Rattle.loops.specs.PutLaws.{put-same}
 use Rattle.optimum.specs.Search.{Problem, Mates, Search, seeSpare, search}
 use Rattle.optimum.specs.Slackness.{Ranked, Unmatched}
 use Rattle.optimum.specs.Lowest.{Labels, unlabelled, fresh, labelled, matched, labelTree, mateSearch, labelSpare, labelFrom, labels}
-use Rattle.optimum.specs.Matched.{Matched, matched-true, matched-false}
+use Rattle.optimum.specs.Matched.{Mate, mate, free, pair, Matched, matched-true, matched-false}
 use Rattle.optimum.specs.SearchLaws.{Kept, TreeClosed, SpareClosed, Grown, grown-spare, grown-see, Explored, search-explores}
 
 -- What a label says of its rank: the origin's old cost says it of the origin, and alternating steps hand it on.
@@ -30,12 +30,13 @@ pub record Top (p : Problem) (n k v : ℕ) : Type 0 where
 
 -- Labels given so far.
 pub record Closed (p : Problem) (mates : Mates) (OnTree OnSpare : ℕ → ℕ → Type 0) (n k : ℕ) (l : Labels) : Type 0 where
-  pub covered : (t s : ℕ) → s < p .spares → l .treeDone t ≡ true → p .covers t s ≡ true → (l .spareDone s ≡ true) × (l .treeLabel t ≤ l .spareLabel s)
+  pub covered : (t s : ℕ) → s < p .spares → l .treeDone t ≡ true → p .covers t s ≡ true → mates s ≢ 0 → (l .spareDone s ≡ true) × (l .treeLabel t ≤ l .spareLabel s)
   pub followed : (s t : ℕ) → s < p .spares → l .spareDone s ≡ true → mates s ≡ suc t → (l .treeDone t ≡ true) × (l .spareLabel s ≤ l .treeLabel t)
   pub tree-top : (t : ℕ) → l .treeDone t ≡ true → Top p n k (l .treeLabel t)
-  pub spare-top : (s : ℕ) → l .spareDone s ≡ true → Top p n k (l .spareLabel s)
+  pub spare-top : (s : ℕ) → l .spareDone s ≡ true → mates s ≢ 0 → Top p n k (l .spareLabel s)
   pub on-tree : (t : ℕ) → l .treeDone t ≡ true → OnTree t (l .treeLabel t)
-  pub on-spare : (s : ℕ) → l .spareDone s ≡ true → OnSpare s (l .spareLabel s)
+  pub on-spare : (s : ℕ) → s < p .spares → l .spareDone s ≡ true → OnSpare s (l .spareLabel s)
+  pub free : (s : ℕ) → s < p .spares → mates s ≡ 0 → (l .spareDone s ≡ true) × (l .spareLabel s ≡ p .spareCost s)
 
 -- And every rank that had its turn has one, of at least its old cost.
 pub record Labelling (p : Problem) (mates : Mates) (OnTree OnSpare : ℕ → ℕ → Type 0) (n k : ℕ) (l : Labels) : Type 0 where
@@ -66,7 +67,7 @@ record Relabelled (p : Problem) (mates : Mates) (OnTree OnSpare : ℕ → ℕ �
   tree-stays : (t a : ℕ) → (l .treeDone t ≡ true) × (a ≤ l .treeLabel t) → (l′ .treeDone t ≡ true) × (a ≤ l′ .treeLabel t)
   spare-stays : (s a : ℕ) → (l .spareDone s ≡ true) × (a ≤ l .spareLabel s) → (l′ .spareDone s ≡ true) × (a ≤ l′ .spareLabel s)
   tree-floor : (t : ℕ) → l′ .treeDone t ≡ true → v ≤ l′ .treeLabel t
-  spare-floor : (s : ℕ) → l′ .spareDone s ≡ true → v ≤ l′ .spareLabel s
+  spare-floor : (s : ℕ) → l′ .spareDone s ≡ true → mates s ≢ 0 → v ≤ l′ .spareLabel s
 
 -- Everything newly visited is labelled v, a cost that was to come.
 module _
@@ -80,7 +81,7 @@ module _
     (c : Closed p mates OnTree OnSpare n k l)
     (v : ℕ)
     (tree-low : (t : ℕ) → l .treeDone t ≡ true → v ≤ l .treeLabel t)
-    (spare-low : (s : ℕ) → l .spareDone s ≡ true → v ≤ l .spareLabel s)
+    (spare-low : (s : ℕ) → l .spareDone s ≡ true → mates s ≢ 0 → v ≤ l .spareLabel s)
     (top : Top p n′ k′ v)
     (st : Search)
     (g : Grown p (p .spares) mates (λ t. OnTree t v) (λ s. OnSpare s v) (fresh mates l) st)
@@ -88,17 +89,17 @@ module _
     abbrev next : Labels
     next = labelled v st l
 
-    tree-view : (t : ℕ) → st .treeSeen t ≡ true → ((l .treeDone t ≡ true) × (next .treeLabel t ≡ l .treeLabel t)) ⊎ (TreeClosed p (λ t. OnTree t v) (st .spareSeen) t × (next .treeLabel t ≡ v))
-    tree-view t h = relabel v (st .treeSeen) (l .treeDone) (l .treeLabel) t (TreeClosed p (λ t. OnTree t v) (st .spareSeen) t) h (g .new-tree t h)
+    tree-view : (t : ℕ) → st .treeSeen t ≡ true → ((l .treeDone t ≡ true) × (next .treeLabel t ≡ l .treeLabel t)) ⊎ (TreeClosed p (p .spares) (λ t. OnTree t v) (st .spareSeen) t × (next .treeLabel t ≡ v))
+    tree-view t h = relabel v (st .treeSeen) (l .treeDone) (l .treeLabel) t (TreeClosed p (p .spares) (λ t. OnTree t v) (st .spareSeen) t) h (g .new-tree t h)
 
-    spare-view : (s : ℕ) → st .spareSeen s ≡ true → ((l .spareDone s ≡ true) × (next .spareLabel s ≡ l .spareLabel s)) ⊎ (SpareClosed p (p .spares) mates (λ s. OnSpare s v) (st .treeSeen) s × (next .spareLabel s ≡ v))
-    spare-view s h = relabel v (st .spareSeen) (l .spareDone) (l .spareLabel) s (SpareClosed p (p .spares) mates (λ s. OnSpare s v) (st .treeSeen) s) h (g .new-spare s h)
+    spare-view : (s : ℕ) → st .spareSeen s ≡ true → ((l .spareDone s ≡ true) × (next .spareLabel s ≡ l .spareLabel s)) ⊎ (SpareClosed p mates (λ s. OnSpare s v) (st .treeSeen) s × (next .spareLabel s ≡ v))
+    spare-view s h = relabel v (st .spareSeen) (l .spareDone) (l .spareLabel) s (SpareClosed p mates (λ s. OnSpare s v) (st .treeSeen) s) h (g .new-spare s h)
 
     tree-floor : (t : ℕ) → st .treeSeen t ≡ true → v ≤ next .treeLabel t
     tree-floor t h = elim (tree-view t h) [ inl q ↦ omega (arith, tree-low t (q .0), q .1) | inr q ↦ omega (arith, q .1) ]
 
-    spare-floor : (s : ℕ) → st .spareSeen s ≡ true → v ≤ next .spareLabel s
-    spare-floor s h = elim (spare-view s h) [ inl q ↦ omega (arith, spare-low s (q .0), q .1) | inr q ↦ omega (arith, q .1) ]
+    spare-floor : (s : ℕ) → st .spareSeen s ≡ true → mates s ≢ 0 → v ≤ next .spareLabel s
+    spare-floor s h m = elim (spare-view s h) [ inl q ↦ omega (arith, spare-low s (q .0) m, q .1) | inr q ↦ omega (arith, q .1) ]
 
     tree-old : (t : ℕ) → l .treeDone t ≡ true → next .treeLabel t ≡ l .treeLabel t
     tree-old t h = relabel-old v (st .treeSeen t) (l .treeDone t) (l .treeLabel t) h
@@ -110,12 +111,12 @@ module _
     next-closed =
         record {
           covered =
-              λ t s b h e.
+              λ t s b h e m.
               elim (tree-view t h) [
                 | inl q ↦
-                    let w : (l .spareDone s ≡ true) × (l .treeLabel t ≤ l .spareLabel s) = c .covered t s b (q .0) e in
+                    let w : (l .spareDone s ≡ true) × (l .treeLabel t ≤ l .spareLabel s) = c .covered t s b (q .0) e m in
                     (g .spares s (w .0), omega (arith, q .1, w .1, spare-old s (w .0)))
-                | inr q ↦ (q .0 .tried s b e, omega (arith, q .1, spare-floor s (q .0 .tried s b e)))
+                | inr q ↦ (q .0 .tried s b e, omega (arith, q .1, spare-floor s (q .0 .tried s b e) m))
               ];
           followed =
               λ s t b h e.
@@ -132,13 +133,14 @@ module _
                 | inr q ↦ rw (q .1) top
               ];
           spare-top =
-              λ s h.
+              λ s h m.
               elim (spare-view s h) [
-                | inl q ↦ rw (q .1) (top-later p n k n′ k′ (l .spareLabel s) later fewer (c .spare-top s (q .0)))
+                | inl q ↦ rw (q .1) (top-later p n k n′ k′ (l .spareLabel s) later fewer (c .spare-top s (q .0) m))
                 | inr q ↦ rw (q .1) top
               ];
           on-tree = λ t h. elim (tree-view t h) [ inl q ↦ rw (q .1) (c .on-tree t (q .0)) | inr q ↦ rw (q .1) (q .0 .holds) ];
-          on-spare = λ s h. elim (spare-view s h) [ inl q ↦ rw (q .1) (c .on-spare s (q .0)) | inr q ↦ rw (q .1) (q .0 .holds) ];
+          on-spare = λ s b h. elim (spare-view s h) [ inl q ↦ rw (q .1) (c .on-spare s b (q .0)) | inr q ↦ rw (q .1) (q .0 .holds) ];
+          free = λ s b e. let w = c .free s b e in (g .spares s (w .0), spare-old s (w .0) ∙ w .1);
         }
 
     relabelled : Relabelled p mates OnTree OnSpare n′ k′ v l next
@@ -157,9 +159,10 @@ closed-later p mates OnTree OnSpare n k n′ k′ l a b c =
       covered = c .covered;
       followed = c .followed;
       tree-top = λ t h. top-later p n k n′ k′ (l .treeLabel t) a b (c .tree-top t h);
-      spare-top = λ s h. top-later p n k n′ k′ (l .spareLabel s) a b (c .spare-top s h);
+      spare-top = λ s h m. top-later p n k n′ k′ (l .spareLabel s) a b (c .spare-top s h m);
       on-tree = c .on-tree;
       on-spare = c .on-spare;
+      free = c .free;
     }
 
 module _
@@ -199,7 +202,7 @@ module _
     unfolding mateSearch
     spare-search s v l b o zero e = (
       grown-see p (p .spares) mates (λ t. OnTree t v) (λ s. OnSpare s v) s (fresh mates l) refl
-          record { below = b; holds = o; missed = λ q. omega arith; followed = λ t q. absurd (omega (arith, e, q)) },
+          record { below = b; holds = o; followed = λ t q. absurd (omega (arith, e, q)) },
       put-same (l .spareDone) s true,
     )
     spare-search s v l b o (suc t) e =
@@ -214,12 +217,11 @@ module _
           x .grown .spares s (put-same (l .spareDone) s true),
         ))
       where
-        spare-closed : (seen : ℕ → Bool) → seen t ≡ true → SpareClosed p (p .spares) mates (λ s. OnSpare s v) seen s
+        spare-closed : (seen : ℕ → Bool) → seen t ≡ true → SpareClosed p mates (λ s. OnSpare s v) seen s
         spare-closed seen h =
             record {
               below = b;
               holds = o;
-              missed = λ q. omega arith;
               followed = λ x q. let same : t ≡ x = omega (arith, e, q) in rw same at h;
             }
 
@@ -258,8 +260,8 @@ module _
         low-tree : (t : ℕ) → l .treeDone t ≡ true → p .treeCost n ≤ l .treeLabel t
         low-tree t h = i .closed .tree-top t h .trees n (omega arith) b
 
-        low-spare : (s : ℕ) → l .spareDone s ≡ true → p .treeCost n ≤ l .spareLabel s
-        low-spare s h = i .closed .spare-top s h .trees n (omega arith) b
+        low-spare : (s : ℕ) → l .spareDone s ≡ true → mates s ≢ 0 → p .treeCost n ≤ l .spareLabel s
+        low-spare s h m = i .closed .spare-top s h m .trees n (omega arith) b
 
         skipped : (matched p mates n ≡ true) ⊎ (l .treeDone n ≡ true) → Turned (suc n) k l
         skipped (inl m) =
@@ -276,7 +278,7 @@ module _
         record {
           closed = closed-later p mates OnTree OnSpare n (suc s) n s l (omega arith) (omega arith) (i .closed);
           tree-own = i .tree-own;
-          spare-own = own l (λ x a q. q) (h, low-spare s h);
+          spare-own = own l (λ x a q. q) (h, done-own h (mate mates s));
         })
         (λ h.
         let st : Search = mateSearch p s (mates s) (seeSpare s (fresh mates l)) in
@@ -285,7 +287,7 @@ module _
         record {
           closed = r .closed;
           tree-own = λ t a u. r .tree-stays t (p .treeCost t) (i .tree-own t a u);
-          spare-own = own (labelled v st l) (r .spare-stays) (x .1, r .spare-floor s (x .1));
+          spare-own = own (labelled v st l) (r .spare-stays) (x .1, r .spare-floor s (x .1) (λ e. clash (i .closed .free s b e .0) h));
         })
       where
         v : ℕ
@@ -301,20 +303,25 @@ module _
         low-tree : (t : ℕ) → l .treeDone t ≡ true → v ≤ l .treeLabel t
         low-tree t h = i .closed .tree-top t h .spares s (omega arith)
 
-        low-spare : (x : ℕ) → l .spareDone x ≡ true → v ≤ l .spareLabel x
-        low-spare x h = i .closed .spare-top x h .spares s (omega arith)
+        low-spare : (x : ℕ) → l .spareDone x ≡ true → mates x ≢ 0 → v ≤ l .spareLabel x
+        low-spare x h m = i .closed .spare-top x h m .spares s (omega arith)
 
-    unlabelled-labelling : Turned 0 (p .spares) unlabelled
+        done-own : l .spareDone s ≡ true → Mate mates s → v ≤ l .spareLabel s
+        done-own h (free e) = omega (arith, i .closed .free s b e .1)
+        done-own h (pair t e) = low-spare s h (λ z. omega (arith, e, z))
+
+    unlabelled-labelling : Turned 0 (p .spares) (unlabelled p mates)
     unlabelled-labelling =
         record {
           closed =
               record {
-                covered = λ t s b h e. clash h refl;
-                followed = λ s t b h e. clash h refl;
+                covered = λ t s b h e m. clash h refl;
+                followed = λ s t b h e. absurd (omega (arith, eqb-true (mates s) 0 h));
                 tree-top = λ t h. clash h refl;
-                spare-top = λ s h. clash h refl;
+                spare-top = λ s h m. absurd (m (eqb-true (mates s) 0 h));
                 on-tree = λ t h. clash h refl;
-                on-spare = λ s h. clash h refl;
+                on-spare = λ s b h. rw (lt-ltb s (p .spares) b) (says .from-spare s b);
+                free = λ s b e. (eq-eqb (mates s) 0 e, rw (lt-ltb s (p .spares) b));
               };
           tree-own = λ t h u. absurd (omega arith);
           spare-own = λ s h b. absurd (omega arith);
@@ -362,4 +369,4 @@ module _
 
       pub labels-labelling : Turned (p .trees) 0 (labels p mates)
       labels-labelling =
-          from-ends (p .trees + p .spares) 0 (p .spares) unlabelled (omega arith) (omega arith) (omega arith) unlabelled-labelling
+          from-ends (p .trees + p .spares) 0 (p .spares) (unlabelled p mates) (omega arith) (omega arith) (omega arith) unlabelled-labelling

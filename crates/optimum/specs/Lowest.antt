@@ -1,20 +1,20 @@
 -- The model of the lowest costs of a matching: every rank gets the old cost of the dearest edge from which an
 -- alternating path leads to it. Definitions only. Assumes nothing.
 use Prim.Native.Nat.{ℕ, zero, suc, _+_}
-use mathlib.Core.Bool.{Bool, true, false, cond, not, _&&_, _||_}
+use mathlib.Core.Bool.{Bool, false, cond, not, _&&_, _||_}
 use lib.Dec.{leb, ltb, eqb}
-use Rattle.loops.specs.Loop.{choose, put, first}
-use Rattle.optimum.specs.Search.{Problem, Mates, Search, seeSpare, follow, tryTree, search}
+use Rattle.loops.specs.Loop.{choose, first}
+use Rattle.optimum.specs.Search.{Problem, Mates, Search, seeSpare, search}
 
--- The ranks that have a label, and the labels.
+-- The ranks that have a label, and the labels: at the start the unmatched non-tree ranks have one, their own cost, and keep it.
 pub record Labels : Type 0 where
   pub treeDone : ℕ → Bool
   pub spareDone : ℕ → Bool
   pub treeLabel : ℕ → ℕ
   pub spareLabel : ℕ → ℕ
 
-abbrev pub unlabelled : Labels
-unlabelled = record { treeDone = λ _. false; spareDone = λ _. false; treeLabel = λ _. 0; spareLabel = λ _. 0 }
+abbrev pub unlabelled : Problem → Mates → Labels
+unlabelled p mates = record { treeDone = λ _. false; spareDone = λ s. eqb (mates s) 0; treeLabel = λ _. 0; spareLabel = λ s. cond (ltb s (p .spares)) (p .spareCost s) 0 }
 
 -- A search that visits only what has no label yet.
 abbrev pub fresh : Mates → Labels → Search
@@ -60,4 +60,4 @@ labelFrom p mates (suc turns) t (suc s) l =
     (λ _. labelFrom p mates turns t s (labelSpare p mates s l))
 
 abbrev pub labels : Problem → Mates → Labels
-labels p mates = labelFrom p mates (p .trees + p .spares) 0 (p .spares) unlabelled
+labels p mates = labelFrom p mates (p .trees + p .spares) 0 (p .spares) (unlabelled p mates)

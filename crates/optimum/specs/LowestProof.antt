@@ -11,7 +11,7 @@ use Rattle.optimum.specs.Search.{Problem, Mates}
 use Rattle.optimum.specs.Slackness.{Ranked, Valid, RankCosts, Slack}
 use Rattle.optimum.specs.Lowest.{Labels, labels}
 use Rattle.graph.specs.Integers.{pos-le, le-pos, ≤ℤ-trans}
-use Rattle.optimum.specs.Matched.{matched-view}
+use Rattle.optimum.specs.Matched.{Mate, mate, free, pair, matched-view}
 use Rattle.optimum.specs.Labelling.{Labelling, labels-labelling}
 
 abbrev pub labelCosts : Labels → RankCosts
@@ -48,7 +48,7 @@ module _ (p : Problem) (ranked : Ranked p) (mates : Mates) (valid : Valid p mate
   pub labels-old : ((t : ℕ) → t < p .trees → Old p (labels p mates .treeLabel t)) × ((s : ℕ) → s < p .spares → Old p (labels p mates .spareLabel s))
   labels-old = (
     λ t l. old-costs .closed .on-tree t (tree-done p mates (λ _. Old p) (λ _. Old p) (labels p mates) old-costs t l),
-    λ s l. old-costs .closed .on-spare s (spare-done p mates (λ _. Old p) (λ _. Old p) (labels p mates) old-costs s l),
+    λ s l. old-costs .closed .on-spare s l (spare-done p mates (λ _. Old p) (λ _. Old p) (labels p mates) old-costs s l),
   )
 
   -- What a label says of the slack costs e: they are at least the label.
@@ -74,19 +74,19 @@ module _ (p : Problem) (ranked : Ranked p) (mates : Mates) (valid : Valid p mate
     tree-lowest t l = forced .closed .on-tree t (tree-done p mates AtTree AtSpare (labels p mates) forced t l) .1
 
     spare-lowest : (s : ℕ) → s < p .spares → pos (labels p mates .spareLabel s) ≤ℤ e .spare s
-    spare-lowest s l = forced .closed .on-spare s (spare-done p mates AtTree AtSpare (labels p mates) forced s l)
+    spare-lowest s l = forced .closed .on-spare s l (spare-done p mates AtTree AtSpare (labels p mates) forced s l)
 
     forced-slack : Slack p mates (labelCosts (labels p mates))
     forced-slack =
         record {
-          feasible = λ t s k l c. pos-le (forced .closed .covered t s l (at-tree t k) c .1);
+          feasible = λ t s k l c. feasible t s k l c (mate mates s);
           tight =
               λ s t l q.
               ap pos
-              (omega (arith, forced .closed .followed s t l (at-spare s l) q .1, forced .closed .covered t s l (at-tree t (valid .below s t l q)) (valid .covers s t l q) .1));
+              (omega (arith, forced .closed .followed s t l (at-spare s l) q .1, forced .closed .covered t s l (at-tree t (valid .below s t l q)) (valid .covers s t l q) (λ z. omega (arith, q, z)) .1));
           above = λ s l. pos-le (forced .spare-own s (omega arith) l .1);
           below = λ t l. ≤ℤ-trans (tree-lowest t l) (slack .below t l);
-          spare-free = λ s l q. ap pos (omega (arith, forced .spare-own s (omega arith) l .1, le-pos (rw (slack .spare-free s l q) at (spare-lowest s l))));
+          spare-free = λ s l q. ap pos (forced .closed .free s l q .1);
           tree-free = λ t l u. ap pos (omega (arith, forced .tree-own t l u .1, le-pos (≤ℤ-trans (tree-lowest t l) (slack .below t l))));
         }
       where
@@ -95,6 +95,11 @@ module _ (p : Problem) (ranked : Ranked p) (mates : Mates) (valid : Valid p mate
 
         at-spare : (s : ℕ) → s < p .spares → labels p mates .spareDone s ≡ true
         at-spare = spare-done p mates AtTree AtSpare (labels p mates) forced
+
+        feasible : (t s : ℕ) → t < p .trees → s < p .spares → p .covers t s ≡ true → Mate mates s → pos (labels p mates .treeLabel t) ≤ℤ pos (labels p mates .spareLabel s)
+        feasible t s k l c (free q) =
+            rw (forced .closed .free s l q .1) (≤ℤ-trans (tree-lowest t k) (rw (slack .spare-free s l q) at (slack .feasible t s k l c)))
+        feasible t s k l c (pair x q) = pos-le (forced .closed .covered t s l (at-tree t k) c (λ z. omega (arith, q, z)) .1)
 
 pub labels-slack : (p : Problem) → Ranked p → (mates : Mates) → Valid p mates → (d : RankCosts) → Slack p mates d → Slack p mates (labelCosts (labels p mates))
 labels-slack p ranked mates valid d slack = forced-slack p ranked mates valid d slack

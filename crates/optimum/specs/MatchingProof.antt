@@ -4,21 +4,18 @@ use Prim.Native.Nat.{ℕ, zero, suc, _+_, _≤_, _<_}
 use native.Mathlib.Omega.{arith}
 use mathlib.Core.Path.{_≡_, refl, ap}
 use mathlib.Core.Logic.{_⊎_, inl, inr}
-use mathlib.Core.Bool.{true, false}
+use mathlib.Core.Bool.{true}
 use lib.IntN.{pos}
 use Rattle.loops.specs.Loop.{scan}
 use Rattle.loops.specs.TestLaws.{clash}
-use Rattle.optimum.specs.Search.{Problem, Mates, Progress, augment, matching}
+use Rattle.optimum.specs.Search.{Problem, Mates, Progress, augment, unmatched, matching}
 use Rattle.optimum.specs.Slackness.{Ranked, Valid, RankCosts, Slack, Unmatched}
 use Rattle.graph.specs.Integers.{pos-le}
 use Rattle.optimum.specs.Matched.{Matched, matched-view}
 use Rattle.optimum.specs.Invariant.{Pairs, Done}
 use Rattle.optimum.specs.Augment.{Invariant, augment-keeps}
 
-abbrev first-progress : Progress
-first-progress = record { mates = λ _. 0; treeDead = λ _. false; spareDead = λ _. false }
-
-first-invariant : (p : Problem) → Invariant p 0 first-progress (p .spareCost)
+first-invariant : (p : Problem) → Invariant p 0 unmatched (p .spareCost)
 first-invariant p =
     record {
       pairs =
@@ -33,7 +30,8 @@ first-invariant p =
             under = λ s t l e. absurd (omega arith);
           };
       done = λ t l. absurd (omega arith);
-      high-spare = λ s t l q a b. clash q refl;
+      dead = λ x q. clash q refl;
+      high-spare = λ s t l q m a b. absurd (m refl);
       high-tree = λ x s t l q c a b. clash q refl;
     }
 

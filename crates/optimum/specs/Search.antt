@@ -1,12 +1,13 @@
 -- The model of the matching, over any relation between tree ranks and non-tree ranks: the search that follows
 -- alternating paths, and the matching that it builds one tree rank at a time. Definitions only. Assumes nothing.
 use Prim.Native.Nat.{ℕ, zero, suc}
-use mathlib.Core.Bool.{Bool, true, false, cond, not, _&&_, _||_}
+use mathlib.Core.Bool.{Bool, true, false, cond, not, _&&_}
 use lib.Dec.{ltb, eqb}
-use Rattle.loops.specs.Loop.{scan, choose, put, first}
+use Rattle.loops.specs.Loop.{scan, choose, put, first, pick}
 
--- Tree edges and non-tree edges by rank: how many, whether non-tree rank s covers tree rank t, and their old costs.
--- Tree ranks go by falling, non-tree ranks by rising cost.
+-- Tree edges and non-tree edges by rank: how many, the relation to match in, and their old costs. In the answer's problem
+-- (Solve.antt) `covers t s` says that non-tree rank s covers tree rank t and costs less. Tree ranks go by falling, non-tree
+-- ranks by rising cost.
 pub record Problem : Type 0 where
   pub trees : ℕ
   pub spares : ℕ
@@ -31,16 +32,6 @@ seeTree t st = record { mates = st .mates; treeSeen = put (st .treeSeen) t true;
 abbrev pub seeSpare : ℕ → Search → Search
 seeSpare s st = record { mates = st .mates; treeSeen = st .treeSeen; spareSeen = put (st .spareSeen) s true; met = st .met }
 
--- Every unmatched non-tree rank that covers tree rank t at once: no mate leads on from them.
-abbrev pub seeFree : Problem → ℕ → Search → Search
-seeFree p t st =
-    record {
-      mates = st .mates;
-      treeSeen = st .treeSeen;
-      spareSeen = λ s. st .spareSeen s || (ltb s (p .spares) && p .covers t s && eqb (st .mates s) 0);
-      met = st .met;
-    }
-
 abbrev pub match : ℕ → ℕ → Search → Search
 match t s st = record { mates = put (st .mates) s (suc t); treeSeen = st .treeSeen; spareSeen = st .spareSeen; met = st .met }
 
@@ -56,59 +47,78 @@ follow visit t s (suc t′) st =
     let next : Search = visit t′ (match t s st) in
     cond (next .met) next (match t′ s next)
 
--- Tree rank t tries non-tree rank s.
-unfoldable pub trySpare : Problem → (ℕ → Search → Search) → ℕ → ℕ → Search → Search
-trySpare p visit t s st =
-    choose (st .met || not (p .covers t s) || st .spareSeen s) (λ _. st) λ _.
-    follow visit t s (st .mates s) (seeSpare s st)
+-- What tree rank t tries next: a non-tree rank that covers it and was not visited; none if there is none.
+abbrev pub nextSpare : Problem → ℕ → Search → ℕ
+nextSpare p t st = pick (p .spares) (λ s. p .covers t s && not (st .spareSeen s))
 
--- Tree rank t visited: it is matched to the goal, if that covers it; else it visits the unmatched non-tree ranks that
--- cover it, and then tries the matched ones, by rank. The first number after the goal bounds how deep the calls go.
+-- Tree rank t tries one after the other, until there is none left or the goal is met; at most `turns` of them.
+unfoldable pub trySpares : Problem → (ℕ → Search → Search) → ℕ → ℕ → Search → Search
+trySpares p visit t zero st = st
+trySpares p visit t (suc turns) st =
+    let s : ℕ = nextSpare p t st in
+    choose (ltb s (p .spares))
+    (λ _.
+    let next : Search = follow visit t s (st .mates s) (seeSpare s st) in
+    choose (next .met) (λ _. next) (λ _. trySpares p visit t turns next))
+    (λ _. st)
+
+-- Tree rank t visited: it is matched to the goal, if that covers it; else it tries the non-tree ranks that cover
+-- it. The first number after the goal bounds how deep the calls go.
 unfoldable pub tryTree : Problem → ℕ → ℕ → ℕ → Search → Search
 tryTree p goal zero t st = st
 tryTree p goal (suc depth) t st =
     choose (ltb goal (p .spares) && p .covers t goal)
     (λ _. reachGoal (match t goal st))
-    (λ _. scan (trySpare p (tryTree p goal depth) t) (p .spares) 0 (seeFree p t (seeTree t st)))
+    (λ _. trySpares p (tryTree p goal depth) t (p .spares) (seeTree t st))
 
 abbrev pub search : Problem → ℕ → ℕ → Search → Search
 search p goal t st = tryTree p goal (suc (p .trees)) t st
 
--- The matching so far, and the ranks that searches which failed have visited: no later one needs them.
+-- The matching so far; the tree ranks that searches which failed have visited, and the matched non-tree ranks that they
+-- have not: no later search needs the others.
 pub record Progress : Type 0 where
   pub mates : Mates
   pub treeDead : ℕ → Bool
-  pub spareDead : ℕ → Bool
+  pub spareLive : ℕ → Bool
 
+-- A search follows live ranks only; it leaves out the unmatched ones too, from which no mate leads on.
 abbrev pub begun : Progress → Search
-begun pr = record { mates = pr .mates; treeSeen = pr .treeDead; spareSeen = pr .spareDead; met = false }
+begun pr = record { mates = pr .mates; treeSeen = pr .treeDead; spareSeen = λ s. not (pr .spareLive s); met = false }
 
--- The lowest open non-tree rank: unmatched, and no failed search has visited it.
+-- The lowest unmatched non-tree rank.
 abbrev pub cheapestOf : Problem → Progress → ℕ
-cheapestOf p pr = first (p .spares) (λ s. not (pr .spareDead s) && eqb (pr .mates s) 0)
+cheapestOf p pr = first (p .spares) (λ s. eqb (pr .mates s) 0)
 
--- The lowest open rank that a search has visited.
+-- Non-tree rank s covers one of these tree ranks.
+abbrev pub coversSome : Problem → (ℕ → Bool) → ℕ → Bool
+coversSome p trees s = ltb (first (p .trees) (λ t. trees t && p .covers t s)) (p .trees)
+
+-- The tree ranks that a search has visited and no failed one before it.
+abbrev pub newTrees : Progress → Search → ℕ → Bool
+newTrees pr st t = st .treeSeen t && not (pr .treeDead t)
+
+-- The lowest unmatched rank that covers one of them.
 abbrev pub goalOf : Problem → Progress → Search → ℕ
-goalOf p pr st = first (p .spares) (λ s. st .spareSeen s && not (pr .spareDead s) && eqb (pr .mates s) 0)
+goalOf p pr st = first (p .spares) (λ s. coversSome p (newTrees pr st) s && eqb (pr .mates s) 0)
 
 -- The goal is worth a search from tree rank t: there is one, and it costs less.
 abbrev pub worth : Problem → ℕ → ℕ → Bool
 worth p t goal = ltb goal (p .spares) && ltb (p .spareCost goal) (p .treeCost t)
 
 -- The goal was met: the search has turned the matching, and gives nothing up.
-abbrev pub turned : Progress → Search → Progress
-turned pr st = record { mates = st .mates; treeDead = pr .treeDead; spareDead = pr .spareDead }
+abbrev pub turned : Progress → ℕ → Search → Progress
+turned pr goal st = record { mates = st .mates; treeDead = pr .treeDead; spareLive = put (pr .spareLive) goal true }
 
--- The search st has visited all that alternating paths from tree rank t lead to: t is matched if the cheapest open rank
--- among it costs less; else all of it is given up.
+-- The search st has visited all that alternating paths from tree rank t lead to: t is matched if the cheapest unmatched
+-- rank among it costs less; else all of it is given up.
 abbrev pub augmentReached : Problem → ℕ → Progress → Search → Progress
 augmentReached p t pr st =
     let goal : ℕ = goalOf p pr st in
     choose (worth p t goal)
-    (λ _. turned pr (search p goal t (begun pr)))
-    (λ _. record { mates = pr .mates; treeDead = st .treeSeen; spareDead = st .spareSeen })
+    (λ _. turned pr goal (search p goal t (begun pr)))
+    (λ _. record { mates = pr .mates; treeDead = st .treeSeen; spareLive = λ s. not (st .spareSeen s) })
 
--- Tree rank t is matched if the cheapest open non-tree edge that alternating paths lead to costs less than it. The
+-- Tree rank t is matched if the cheapest unmatched non-tree edge that alternating paths lead to costs less than it. The
 -- cheapest of all is tried first: if it costs too much, so do the others; if it is met, no other is cheaper.
 unfoldable pub augment : Problem → ℕ → Progress → Progress
 augment p t pr =
@@ -116,9 +126,13 @@ augment p t pr =
     choose (worth p t cheapest)
     (λ _.
     let st : Search = search p cheapest t (begun pr) in
-    choose (st .met) (λ _. turned pr st) (λ _. augmentReached p t pr st))
+    choose (st .met) (λ _. turned pr cheapest st) (λ _. augmentReached p t pr st))
     (λ _. pr)
+
+-- Before the first tree rank: no mates.
+abbrev pub unmatched : Progress
+unmatched = record { mates = λ _. 0; treeDead = λ _. false; spareLive = λ _. false }
 
 -- The matching: every tree rank in turn.
 abbrev pub matching : Problem → Mates
-matching p = scan (augment p) (p .trees) 0 (record { mates = λ _. 0; treeDead = λ _. false; spareDead = λ _. false }) .mates
+matching p = scan (augment p) (p .trees) 0 unmatched .mates

@@ -5,15 +5,16 @@ use native.Mathlib.Decide.{ℕ-discrete}
 use native.Mathlib.Omega.{arith}
 use mathlib.Core.Path.{_≡_, refl, sym, _∙_, ap}
 use mathlib.Core.Logic.{_≢_, _⊎_, inl, inr}
-use mathlib.Core.Bool.{Bool, true, false, cond, not, _&&_, _||_}
-use lib.Dec.{ltb, eqb}
-use borrow.Author.Tests.{ltb-true, lt-ltb, eqb-true}
-use Rattle.loops.specs.Loop.{scan, put}
+use mathlib.Core.Bool.{Bool, true, false, cond, not, _&&_}
+use lib.Dec.{ltb}
+use borrow.Author.Tests.{ltb-true, lt-ltb, le-ltb, not-true}
+use Rattle.loops.specs.Loop.{choose, put}
 use Rattle.loops.specs.TestLaws.{truth, clash, and-first, and-second, and-miss, cond-both, choose-both}
 use Rattle.loops.specs.PutLaws.{put-same, put-other, put-back, put-split, put-kept}
 use Rattle.graph.specs.Graph.{count}
-use Rattle.graph.specs.CountLaws.{count-put, count-below, count-within}
-use Rattle.optimum.specs.Search.{Problem, Mates, Search, seeTree, seeSpare, seeFree, match, follow, trySpare, tryTree, search}
+use Rattle.loops.specs.FirstLaws.{pick-is}
+use Rattle.graph.specs.CountLaws.{count-put, count-below, count-within, count-full}
+use Rattle.optimum.specs.Search.{Problem, Mates, Search, seeTree, seeSpare, match, follow, nextSpare, trySpares, tryTree, search}
 
 -- An alternating path from tree rank t to the goal, in the matching m, which it turns into m′; base is the matching at
 -- the start of the search.
@@ -30,24 +31,24 @@ pub record Kept (p : Problem) (start : Search) (OnTree OnSpare : ℕ → Type 0)
   pub to-spare : (t s : ℕ) → s < p .spares → OnTree t → p .covers t s ≡ true → start .spareSeen s ≡ false → OnSpare s
   pub to-mate : (s t : ℕ) → s < p .spares → OnSpare s → start .mates s ≡ suc t → start .treeSeen t ≡ false → OnTree t
 
--- Tree rank t has been visited: what covers it has been, too.
-pub record TreeClosed (p : Problem) (OnTree : ℕ → Type 0) (seen : ℕ → Bool) (t : ℕ) : Type 0 where
+-- Tree rank t has been visited: the goal does not cover it, and what does has been visited, too.
+pub record TreeClosed (p : Problem) (goal : ℕ) (OnTree : ℕ → Type 0) (seen : ℕ → Bool) (t : ℕ) : Type 0 where
   pub holds : OnTree t
+  pub missed : goal < p .spares → p .covers t goal ≡ false
   pub tried : (s : ℕ) → s < p .spares → p .covers t s ≡ true → seen s ≡ true
 
--- Non-tree rank s has been visited: it is not the goal, and its mate has been visited, too.
-pub record SpareClosed (p : Problem) (goal : ℕ) (base : Mates) (OnSpare : ℕ → Type 0) (seen : ℕ → Bool) (s : ℕ) : Type 0 where
+-- Non-tree rank s has been visited: its mate has been visited, too.
+pub record SpareClosed (p : Problem) (base : Mates) (OnSpare : ℕ → Type 0) (seen : ℕ → Bool) (s : ℕ) : Type 0 where
   pub below : s < p .spares
   pub holds : OnSpare s
-  pub missed : s ≢ goal
   pub followed : (t : ℕ) → base s ≡ suc t → seen t ≡ true
 
 -- From st a search came to st′ and has not met the goal.
 pub record Grown (p : Problem) (goal : ℕ) (base : Mates) (OnTree OnSpare : ℕ → Type 0) (st st′ : Search) : Type 0 where
   pub trees : (t : ℕ) → st .treeSeen t ≡ true → st′ .treeSeen t ≡ true
   pub spares : (s : ℕ) → st .spareSeen s ≡ true → st′ .spareSeen s ≡ true
-  pub new-tree : (t : ℕ) → st′ .treeSeen t ≡ true → (st .treeSeen t ≡ true) ⊎ TreeClosed p OnTree (st′ .spareSeen) t
-  pub new-spare : (s : ℕ) → st′ .spareSeen s ≡ true → (st .spareSeen s ≡ true) ⊎ SpareClosed p goal base OnSpare (st′ .treeSeen) s
+  pub new-tree : (t : ℕ) → st′ .treeSeen t ≡ true → (st .treeSeen t ≡ true) ⊎ TreeClosed p goal OnTree (st′ .spareSeen) t
+  pub new-spare : (s : ℕ) → st′ .spareSeen s ≡ true → (st .spareSeen s ≡ true) ⊎ SpareClosed p base OnSpare (st′ .treeSeen) s
   pub mates : st′ .mates ≡ st .mates
   pub unmet : st′ .met ≡ false
 
@@ -56,7 +57,7 @@ pub record During (p : Problem) (goal : ℕ) (start st : Search) : Type 0 where
   pub trees : (t : ℕ) → start .treeSeen t ≡ true → st .treeSeen t ≡ true
   pub spares : (s : ℕ) → start .spareSeen s ≡ true → st .spareSeen s ≡ true
   pub mates : (s : ℕ) → st .spareSeen s ≡ false → st .mates s ≡ start .mates s
-  pub ahead : goal < p .spares → st .spareSeen goal ≡ false
+  pub goal-mate : st .mates goal ≡ start .mates goal
   pub unmet : st .met ≡ false
 
 -- Not visited now, so not before.
@@ -86,33 +87,22 @@ module _ (p : Problem) (goal : ℕ) (base : Mates) (OnTree OnSpare : ℕ → Typ
         unmet = h .unmet;
       }
     where
-      tree-on : (t : ℕ) → (a .treeSeen t ≡ true) ⊎ TreeClosed p OnTree (b .spareSeen) t → (a .treeSeen t ≡ true) ⊎ TreeClosed p OnTree (c .spareSeen) t
+      tree-on : (t : ℕ) → (a .treeSeen t ≡ true) ⊎ TreeClosed p goal OnTree (b .spareSeen) t → (a .treeSeen t ≡ true) ⊎ TreeClosed p goal OnTree (c .spareSeen) t
       tree-on t (inl q) = inl q
-      tree-on t (inr q) = inr (record { holds = q .holds; tried = λ s l e. h .spares s (q .tried s l e) })
+      tree-on t (inr q) = inr (record { holds = q .holds; missed = q .missed; tried = λ s l e. h .spares s (q .tried s l e) })
 
-      tree-at : (t : ℕ) → (b .treeSeen t ≡ true) ⊎ TreeClosed p OnTree (c .spareSeen) t → (a .treeSeen t ≡ true) ⊎ TreeClosed p OnTree (c .spareSeen) t
+      tree-at : (t : ℕ) → (b .treeSeen t ≡ true) ⊎ TreeClosed p goal OnTree (c .spareSeen) t → (a .treeSeen t ≡ true) ⊎ TreeClosed p goal OnTree (c .spareSeen) t
       tree-at t (inl q) = tree-on t (g .new-tree t q)
       tree-at t (inr q) = inr q
 
-      spare-on : (s : ℕ) → (a .spareSeen s ≡ true) ⊎ SpareClosed p goal base OnSpare (b .treeSeen) s → (a .spareSeen s ≡ true) ⊎ SpareClosed p goal base OnSpare (c .treeSeen) s
+      spare-on : (s : ℕ) → (a .spareSeen s ≡ true) ⊎ SpareClosed p base OnSpare (b .treeSeen) s → (a .spareSeen s ≡ true) ⊎ SpareClosed p base OnSpare (c .treeSeen) s
       spare-on s (inl q) = inl q
       spare-on s (inr q) =
-          inr (record { below = q .below; holds = q .holds; missed = q .missed; followed = λ t e. h .trees t (q .followed t e) })
+          inr (record { below = q .below; holds = q .holds; followed = λ t e. h .trees t (q .followed t e) })
 
-      spare-at : (s : ℕ) → (b .spareSeen s ≡ true) ⊎ SpareClosed p goal base OnSpare (c .treeSeen) s → (a .spareSeen s ≡ true) ⊎ SpareClosed p goal base OnSpare (c .treeSeen) s
+      spare-at : (s : ℕ) → (b .spareSeen s ≡ true) ⊎ SpareClosed p base OnSpare (c .treeSeen) s → (a .spareSeen s ≡ true) ⊎ SpareClosed p base OnSpare (c .treeSeen) s
       spare-at s (inl q) = spare-on s (g .new-spare s q)
       spare-at s (inr q) = inr q
-
--- Tree rank t tries non-tree rank s unless the goal is met, s does not cover t, or s has been visited.
-skipped : (met covers seen : Bool) → (met || not covers || seen) ≡ true → met ≡ false → covers ≡ true → seen ≡ true
-skipped true covers seen q m c = clash refl m
-skipped false true seen q m c = q
-skipped false false seen q m c = clash c refl
-
-tried : (met covers seen : Bool) → (met || not covers || seen) ≡ false → (covers ≡ true) × (seen ≡ false)
-tried true covers seen q = clash refl q
-tried false true seen q = (refl, q)
-tried false false seen q = clash refl q
 
 during-grown : (p : Problem) (goal : ℕ) (start : Search) (OnTree OnSpare : ℕ → Type 0) (st st′ : Search) → During p goal start st → Grown p goal (start .mates) OnTree OnSpare st st′ → During p goal start st′
 during-grown p goal start OnTree OnSpare st st′ d g =
@@ -120,13 +110,9 @@ during-grown p goal start OnTree OnSpare st st′ d g =
       trees = λ t q. g .trees t (d .trees t q);
       spares = λ s q. g .spares s (d .spares s q);
       mates = λ s q. ap (λ (m : Mates). m s) (g .mates) ∙ d .mates s (unseen (st .spareSeen) (st′ .spareSeen) s (g .spares) q);
-      ahead = λ l. elim (truth (st′ .spareSeen goal)) [ inl q ↦ seen l (g .new-spare goal q) | inr q ↦ q ];
+      goal-mate = ap (λ (m : Mates). m goal) (g .mates) ∙ d .goal-mate;
       unmet = g .unmet;
     }
-  where
-    seen : goal < p .spares → (st .spareSeen goal ≡ true) ⊎ SpareClosed p goal (start .mates) OnSpare (st′ .treeSeen) goal → st′ .spareSeen goal ≡ false
-    seen l (inl q) = clash q (d .ahead l)
-    seen l (inr c) = absurd (c .missed refl)
 
 during-see-tree : (p : Problem) (goal : ℕ) (start : Search) (t : ℕ) (st : Search) → During p goal start st → During p goal start (seeTree t st)
 during-see-tree p goal start t st d =
@@ -134,7 +120,7 @@ during-see-tree p goal start t st d =
       trees = λ x q. put-kept (st .treeSeen) t x (d .trees x q);
       spares = d .spares;
       mates = d .mates;
-      ahead = d .ahead;
+      goal-mate = d .goal-mate;
       unmet = d .unmet;
     }
 
@@ -145,7 +131,7 @@ during-match p goal start t s st n d =
       trees = d .trees;
       spares = λ x q. put-kept (st .spareSeen) s x (d .spares x q);
       mates = mate-at;
-      ahead = λ l. put-other (st .spareSeen) s true goal (λ e. n (sym e)) ∙ d .ahead l;
+      goal-mate = put-other (st .mates) s (suc t) goal (λ e. n (sym e)) ∙ d .goal-mate;
       unmet = d .unmet;
     }
   where
@@ -166,7 +152,7 @@ Tried p goal base OnTree OnSpare st t Wanted st′ =
 pub record Explored (p : Problem) (goal : ℕ) (base : Mates) (OnTree OnSpare : ℕ → Type 0) (st : Search) (t : ℕ) (st′ : Search) : Type 0 where
   pub grown : Grown p goal base OnTree OnSpare st st′
   pub seen : st′ .treeSeen t ≡ true
-  pub closed : TreeClosed p OnTree (st′ .spareSeen) t
+  pub closed : TreeClosed p goal OnTree (st′ .spareSeen) t
 
 -- How a search from tree rank t ends.
 abbrev pub Visited : Problem → ℕ → Mates → (ℕ → Type 0) → (ℕ → Type 0) → Search → ℕ → Search → Type 0
@@ -175,7 +161,7 @@ Visited p goal base OnTree OnSpare st t st′ =
 
 module _ (p : Problem) (goal : ℕ) (base : Mates) (OnTree OnSpare : ℕ → Type 0) where
   -- Non-tree rank s visited, and its mate too in the end.
-  pub grown-spare : (s : ℕ) (st st′ : Search) → Grown p goal base OnTree OnSpare (seeSpare s st) st′ → SpareClosed p goal base OnSpare (st′ .treeSeen) s → Grown p goal base OnTree OnSpare st st′
+  pub grown-spare : (s : ℕ) (st st′ : Search) → Grown p goal base OnTree OnSpare (seeSpare s st) st′ → SpareClosed p base OnSpare (st′ .treeSeen) s → Grown p goal base OnTree OnSpare st st′
   grown-spare s st st′ g c =
       record {
         trees = g .trees;
@@ -186,19 +172,19 @@ module _ (p : Problem) (goal : ℕ) (base : Mates) (OnTree OnSpare : ℕ → Typ
         unmet = g .unmet;
       }
     where
-      old-spare : (x : ℕ) → (x ≡ s) ⊎ (st .spareSeen x ≡ true) → (st .spareSeen x ≡ true) ⊎ SpareClosed p goal base OnSpare (st′ .treeSeen) x
+      old-spare : (x : ℕ) → (x ≡ s) ⊎ (st .spareSeen x ≡ true) → (st .spareSeen x ≡ true) ⊎ SpareClosed p base OnSpare (st′ .treeSeen) x
       old-spare x (inl q) = inr (rw q c)
       old-spare x (inr q) = inl q
 
-      at-spare : (x : ℕ) → (put (st .spareSeen) s true x ≡ true) ⊎ SpareClosed p goal base OnSpare (st′ .treeSeen) x → (st .spareSeen x ≡ true) ⊎ SpareClosed p goal base OnSpare (st′ .treeSeen) x
+      at-spare : (x : ℕ) → (put (st .spareSeen) s true x ≡ true) ⊎ SpareClosed p base OnSpare (st′ .treeSeen) x → (st .spareSeen x ≡ true) ⊎ SpareClosed p base OnSpare (st′ .treeSeen) x
       at-spare x (inl q) = old-spare x (put-split (st .spareSeen) s x q)
       at-spare x (inr q) = inr q
 
-  pub grown-see : (s : ℕ) (st : Search) → st .met ≡ false → SpareClosed p goal base OnSpare (st .treeSeen) s → Grown p goal base OnTree OnSpare st (seeSpare s st)
+  pub grown-see : (s : ℕ) (st : Search) → st .met ≡ false → SpareClosed p base OnSpare (st .treeSeen) s → Grown p goal base OnTree OnSpare st (seeSpare s st)
   grown-see s st h c = grown-spare s st (seeSpare s st) (grown-refl p goal base OnTree OnSpare (seeSpare s st) h) c
 
   -- Its mate's search has failed, and it is matched to its mate again.
-  grown-around : (t s t′ : ℕ) (st st′ : Search) → Grown p goal base OnTree OnSpare (match t s (seeSpare s st)) st′ → st .mates s ≡ suc t′ → SpareClosed p goal base OnSpare (st′ .treeSeen) s → Grown p goal base OnTree OnSpare st (match t′ s st′)
+  grown-around : (t s t′ : ℕ) (st st′ : Search) → Grown p goal base OnTree OnSpare (match t s (seeSpare s st)) st′ → st .mates s ≡ suc t′ → SpareClosed p base OnSpare (st′ .treeSeen) s → Grown p goal base OnTree OnSpare st (match t′ s st′)
   grown-around t s t′ st st′ g e c =
       grown-spare s st (match t′ s st′)
       record {
@@ -212,7 +198,7 @@ module _ (p : Problem) (goal : ℕ) (base : Mates) (OnTree OnSpare : ℕ → Typ
       c
 
   -- Tree rank t visited, and what covers it tried.
-  grown-tree : (t : ℕ) (st st′ : Search) → Grown p goal base OnTree OnSpare (seeTree t st) st′ → TreeClosed p OnTree (st′ .spareSeen) t → Grown p goal base OnTree OnSpare st st′
+  grown-tree : (t : ℕ) (st st′ : Search) → Grown p goal base OnTree OnSpare (seeTree t st) st′ → TreeClosed p goal OnTree (st′ .spareSeen) t → Grown p goal base OnTree OnSpare st st′
   grown-tree t st st′ g c =
       record {
         trees = λ x q. g .trees x (put-kept (st .treeSeen) t x q);
@@ -223,11 +209,11 @@ module _ (p : Problem) (goal : ℕ) (base : Mates) (OnTree OnSpare : ℕ → Typ
         unmet = g .unmet;
       }
     where
-      old-tree : (x : ℕ) → (x ≡ t) ⊎ (st .treeSeen x ≡ true) → (st .treeSeen x ≡ true) ⊎ TreeClosed p OnTree (st′ .spareSeen) x
+      old-tree : (x : ℕ) → (x ≡ t) ⊎ (st .treeSeen x ≡ true) → (st .treeSeen x ≡ true) ⊎ TreeClosed p goal OnTree (st′ .spareSeen) x
       old-tree x (inl q) = inr (rw q c)
       old-tree x (inr q) = inl q
 
-      at-tree : (x : ℕ) → (put (st .treeSeen) t true x ≡ true) ⊎ TreeClosed p OnTree (st′ .spareSeen) x → (st .treeSeen x ≡ true) ⊎ TreeClosed p OnTree (st′ .spareSeen) x
+      at-tree : (x : ℕ) → (put (st .treeSeen) t true x ≡ true) ⊎ TreeClosed p goal OnTree (st′ .spareSeen) x → (st .treeSeen x ≡ true) ⊎ TreeClosed p goal OnTree (st′ .spareSeen) x
       at-tree x (inl q) = old-tree x (put-split (st .treeSeen) t x q)
       at-tree x (inr q) = inr q
 
@@ -258,7 +244,7 @@ module _
         follow-ends t s st l c o n d f m zero e =
             inl (
               grown-see p goal (start .mates) OnTree OnSpare s st (d .unmet)
-                  record { below = l; holds = o; missed = n; followed = λ x q. absurd (omega (arith, d .mates s f)) },
+                  record { below = l; holds = o; followed = λ x q. absurd (omega (arith, d .mates s f)) },
               λ x q _. rw (← q) (put-same (st .spareSeen) s true),
             )
         follow-ends t s st l c o n d f m (suc t′) e =
@@ -277,12 +263,11 @@ module _
             mate-is : start .mates s ≡ suc t′
             mate-is = sym (d .mates s f) ∙ e
 
-            closed : (seen : ℕ → Bool) → seen t′ ≡ true → SpareClosed p goal (start .mates) OnSpare seen s
+            closed : (seen : ℕ → Bool) → seen t′ ≡ true → SpareClosed p (start .mates) OnSpare seen s
             closed seen h =
                 record {
                   below = l;
                   holds = o;
-                  missed = n;
                   followed = λ x q. let same : t′ ≡ x = omega (arith, mate-is) in rw same at h;
                 }
 
@@ -297,79 +282,48 @@ module _
             at-visit (inr x) =
                 cond-both (Tries st t (_≡_ s)) _ _ _ (λ _. inr (x .0, via l c mate-is e (x .1))) (λ q. clash (x .0) q)
 
-        try-ends : (t s : ℕ) (st : Search) → s < p .spares → (p .covers t s ≡ true → s ≢ goal) → OnTree t → During p goal start st → p .trees ≤ depth + count (p .trees) (st .treeSeen) → Tries st t (_≡_ s) (trySpare p visit t s st)
-        unfolding trySpare
-        try-ends t s st l n o d m =
-            choose-both (Tries st t (_≡_ s)) _ _ _
-            (λ q. inl (grown-refl p goal (start .mates) OnTree OnSpare st (d .unmet), λ x e k. rw e at (skipped (st .met) (p .covers t s) (st .spareSeen s) q (d .unmet) (rw e k))))
-            (λ q. at-mate (tried (st .met) (p .covers t s) (st .spareSeen s) q))
+        spares-end : (t turns : ℕ) (st : Search) → p .spares ≤ turns + count (p .spares) (st .spareSeen) → ((s : ℕ) → s < p .spares → p .covers t s ≡ true → s ≢ goal) → OnTree t → During p goal start st → p .trees ≤ depth + count (p .trees) (st .treeSeen) → Tries st t (λ s. s < p .spares) (trySpares p visit t turns st)
+        unfolding trySpares
+        spares-end t zero st k n o d m =
+            inl (grown-refl p goal (start .mates) OnTree OnSpare st (d .unmet), λ s l _. count-full (p .spares) (st .spareSeen) (omega (arith, count-below (p .spares) (st .spareSeen))) s l)
+        spares-end t (suc turns) st k n o d m = elim (pick-is (p .spares) (λ s. p .covers t s && not (st .spareSeen s))) [
+          | inl f ↦
+              let c : p .covers t s ≡ true = and-first (p .covers t s) (not (st .spareSeen s)) (f .1) in
+              let v : st .spareSeen s ≡ false = not-true (st .spareSeen s) (and-second (p .covers t s) (not (st .spareSeen s)) (f .1)) in
+              rw (lt-ltb s (p .spares) (f .0))
+              (after _
+              (follow-ends t s st (f .0) c (kept .to-spare t s (f .0) o c (unseen (start .spareSeen) (st .spareSeen) s (d .spares) v)) (n s (f .0) c) d v m (st .mates s) refl)
+              (f .0) c v (λ next. spares-end t turns next))
+          | inr f ↦
+              rw (f .0, le-ltb (p .spares) (p .spares) (omega arith))
+              (inl (grown-refl p goal (start .mates) OnTree OnSpare st (d .unmet), λ s l c. all s c (f .1 s l)))
+        ]
           where
-            at-mate : (p .covers t s ≡ true) × (st .spareSeen s ≡ false) → Tries st t (_≡_ s) (follow visit t s (st .mates s) (seeSpare s st))
-            at-mate (c, f) =
-                follow-ends t s st l c (kept .to-spare t s l o c (unseen (start .spareSeen) (st .spareSeen) s (d .spares) f)) (n c) d f m _ refl
+            s : ℕ
+            s = nextSpare p t st
 
-        -- Once the goal is met the rest of the scan does nothing.
-        met-stays : (t s : ℕ) (st : Search) → st .met ≡ true → trySpare p visit t s st ≡ st
-        unfolding trySpare
-        met-stays t s st h = rw h
+            all : (s : ℕ) → p .covers t s ≡ true → (p .covers t s && not (st .spareSeen s)) ≡ false → st .spareSeen s ≡ true
+            all s c h = elim (truth (st .spareSeen s)) [ inl q ↦ q | inr q ↦ clash (rw (c, q)) h ]
 
-        scan-met : (t turns i : ℕ) (st : Search) → st .met ≡ true → scan (trySpare p visit t) turns i st ≡ st
-        unfolding scan
-        scan-met t zero i st h = refl
-        scan-met t (suc turns) i st h = rw (met-stays t i st h) (scan-met t turns (suc i) st h)
+            after : (next : Search) → Tries st t (_≡_ s) next → s < p .spares → p .covers t s ≡ true → st .spareSeen s ≡ false
+                → ((next : Search) → p .spares ≤ turns + count (p .spares) (next .spareSeen) → ((s : ℕ) → s < p .spares → p .covers t s ≡ true → s ≢ goal) → OnTree t → During p goal start next → p .trees ≤ depth + count (p .trees) (next .treeSeen) → Tries next t (λ s. s < p .spares) (trySpares p visit t turns next))
+                → Tries st t (λ s. s < p .spares) (choose (next .met) (λ _. next) (λ _. trySpares p visit t turns next))
+            after next (inr x) l c v rest = choose-both (Tries st t (λ s. s < p .spares)) (next .met) _ _ (λ _. inr x) (λ q. clash (x .0) q)
+            after next (inl x) l c v rest =
+                choose-both (Tries st t (λ s. s < p .spares)) (next .met) _ _ (λ q. clash q (x .0 .unmet))
+                (λ _. join (rest next
+                (omega (arith, rw v at (count-put (p .spares) (st .spareSeen) s true l), count-within (p .spares) (put (st .spareSeen) s true) (next .spareSeen) (λ y _ q. grew y (put-split (st .spareSeen) s y q))))
+                n o
+                (during-grown p goal start OnTree OnSpare st next d (x .0))
+                (omega (arith, count-within (p .trees) (st .treeSeen) (next .treeSeen) (λ y _. x .0 .trees y)))))
+              where
+                grew : (y : ℕ) → (y ≡ s) ⊎ (st .spareSeen y ≡ true) → next .spareSeen y ≡ true
+                grew y (inl q) = x .1 y (sym q) (rw q c)
+                grew y (inr q) = x .0 .spares y q
 
-        scan-ends : (t turns i : ℕ) (st : Search) → i + turns ≡ p .spares → ((s : ℕ) → s < p .spares → p .covers t s ≡ true → s ≢ goal) → OnTree t → During p goal start st → p .trees ≤ depth + count (p .trees) (st .treeSeen) → Tries st t (λ s. (i ≤ s) × (s < p .spares)) (scan (trySpare p visit t) turns i st)
-        unfolding scan
-        scan-ends t zero i st e n o d m =
-            inl (grown-refl p goal (start .mates) OnTree OnSpare st (d .unmet), λ s q _. absurd (omega (arith, q .0, q .1)))
-        scan-ends t (suc turns) i st e n o d m = after (trySpare p visit t i st) (try-ends t i st (omega arith) (n i (omega arith)) o d m) (scan-ends t turns (suc i) (trySpare p visit t i st) (omega arith) n o)
-          where
-            join : (st′ st″ : Search) → Grows st st′ × ((s : ℕ) → i ≡ s → p .covers t s ≡ true → st′ .spareSeen s ≡ true) → Tries st′ t (λ s. (suc i ≤ s) × (s < p .spares)) st″ → Tries st t (λ s. (i ≤ s) × (s < p .spares)) st″
-            join st′ st″ x (inl y) =
-                inl (
-                  grown-trans p goal (start .mates) OnTree OnSpare st st′ st″ (x .0) (y .0),
-                  λ s q c.
-                      elim (ℕ-discrete i s) [
-                        | yes k ↦ y .0 .spares s (x .1 s k c)
-                        | no k ↦ y .1 s (omega (arith, q .0), q .1) c
-                      ],
-                )
-            join st′ st″ x (inr y) = inr (y .0, rw (x .0 .mates) at (y .1))
-
-            after : (st′ : Search) → Tries st t (_≡_ i) st′ → (During p goal start st′ → p .trees ≤ depth + count (p .trees) (st′ .treeSeen) → Tries st′ t (λ s. (suc i ≤ s) × (s < p .spares)) (scan (trySpare p visit t) turns (suc i) st′)) → Tries st t (λ s. (i ≤ s) × (s < p .spares)) (scan (trySpare p visit t) turns (suc i) st′)
-            after st′ (inr x) rest = rw (scan-met t turns (suc i) st′ (x .0)) (inr x)
-            after st′ (inl x) rest =
-                join st′ (scan (trySpare p visit t) turns (suc i) st′) x
-                (rest (during-grown p goal start OnTree OnSpare st st′ d (x .0))
-                (omega (arith, count-within (p .trees) (st .treeSeen) (st′ .treeSeen) (λ y _. x .0 .trees y))))
-
-    -- The unmatched non-tree ranks that cover tree rank t visited: none is the goal, and no mate follows.
-    grown-free : (t : ℕ) (st : Search) → ((s : ℕ) → s < p .spares → p .covers t s ≡ true → s ≢ goal) → OnTree t → During p goal start st → Grows st (seeFree p t st)
-    grown-free t st n o d =
-        record {
-          trees = λ x q. q;
-          spares = λ s q. rw q;
-          new-tree = λ x q. inl q;
-          new-spare = λ s q. elim (truth (st .spareSeen s)) [
-            | inl h ↦ inl h
-            | inr h ↦ inr (closed s h (rw h at q))
-          ];
-          mates = refl;
-          unmet = d .unmet;
-        }
-      where
-        closed : (s : ℕ) → st .spareSeen s ≡ false → (ltb s (p .spares) && p .covers t s && eqb (st .mates s) 0) ≡ true → SpareClosed p goal (start .mates) OnSpare (st .treeSeen) s
-        closed s f h =
-            let both : (ltb s (p .spares) && p .covers t s) ≡ true = and-first (ltb s (p .spares) && p .covers t s) (eqb (st .mates s) 0) h in
-            let l : s < p .spares = ltb-true s (p .spares) (and-first (ltb s (p .spares)) (p .covers t s) both) in
-            let c : p .covers t s ≡ true = and-second (ltb s (p .spares)) (p .covers t s) both in
-            let free : st .mates s ≡ 0 = eqb-true (st .mates s) 0 (and-second (ltb s (p .spares) && p .covers t s) (eqb (st .mates s) 0) h) in
-            record {
-              below = l;
-              holds = kept .to-spare t s l o c (unseen (start .spareSeen) (st .spareSeen) s (d .spares) f);
-              missed = n s l c;
-              followed = λ x q. absurd (omega (arith, d .mates s f));
-            }
+                join : {st″ : Search} → Tries next t (λ s. s < p .spares) st″ → Tries st t (λ s. s < p .spares) st″
+                join {st″} (inl y) = inl (grown-trans p goal (start .mates) OnTree OnSpare st next st″ (x .0) (y .0), y .1)
+                join (inr y) = inr (y .0, rw (x .0 .mates) at (y .1))
 
     tree-ends : (depth t : ℕ) (st : Search) → OnTree t → During p goal start st → p .trees < depth + count (p .trees) (put (st .treeSeen) t true) → Visits st t (tryTree p goal depth t st)
     unfolding tryTree
@@ -378,51 +332,46 @@ module _
         choose-both (Visits st t) (ltb goal (p .spares) && p .covers t goal) _ _
         (λ h.
         let l : goal < p .spares = ltb-true goal (p .spares) (and-first (ltb goal (p .spares)) (p .covers t goal) h) in
-        inr (refl, stop l (and-second (ltb goal (p .spares)) (p .covers t goal) h) (d .mates goal (d .ahead l))))
+        inr (refl, stop l (and-second (ltb goal (p .spares)) (p .covers t goal) h) (d .goal-mate)))
         (λ h. whole h _
-        (scan-ends depth (tryTree p goal depth) (tree-ends depth) t _ 0 (seeFree p t (seeTree t st)) (omega arith) (missed h) o
-        (during-grown p goal start OnTree OnSpare (seeTree t st) (seeFree p t (seeTree t st)) seen (free h))
+        (spares-end depth (tryTree p goal depth) (tree-ends depth) t _ (seeTree t st) (omega arith) (missed h) o
+        (during-see-tree p goal start t st d)
         (omega arith)))
       where
-        seen : During p goal start (seeTree t st)
-        seen = during-see-tree p goal start t st d
+        uncovered : (ltb goal (p .spares) && p .covers t goal) ≡ false → goal < p .spares → p .covers t goal ≡ false
+        uncovered h l = and-miss (ltb goal (p .spares)) (p .covers t goal) h (lt-ltb goal (p .spares) l)
 
         missed : (ltb goal (p .spares) && p .covers t goal) ≡ false → (s : ℕ) → s < p .spares → p .covers t s ≡ true → s ≢ goal
-        missed h s l c e =
-            clash (rw e at c) (and-miss (ltb goal (p .spares)) (p .covers t goal) h (lt-ltb goal (p .spares) (omega arith)))
+        missed h s l c e = clash (rw e at c) (uncovered h (omega arith))
 
-        free : (ltb goal (p .spares) && p .covers t goal) ≡ false → Grows (seeTree t st) (seeFree p t (seeTree t st))
-        free h = grown-free t (seeTree t st) (missed h) o seen
-
-        whole : (ltb goal (p .spares) && p .covers t goal) ≡ false → (st′ : Search) → Tries (seeFree p t (seeTree t st)) t (λ s. (0 ≤ s) × (s < p .spares)) st′ → Visits st t st′
+        whole : (ltb goal (p .spares) && p .covers t goal) ≡ false → (st′ : Search) → Tries (seeTree t st) t (λ s. s < p .spares) st′ → Visits st t st′
         whole h st′ (inl x) =
-            let closed : TreeClosed p OnTree (st′ .spareSeen) t = record { holds = o; tried = λ s l c. x .1 s (omega arith, l) c } in
-            let grown : Grows (seeTree t st) st′ = grown-trans p goal (start .mates) OnTree OnSpare (seeTree t st) (seeFree p t (seeTree t st)) st′ (free h) (x .0) in
+            let closed : TreeClosed p goal OnTree (st′ .spareSeen) t = record { holds = o; missed = uncovered h; tried = x .1 } in
             inl
             (record {
-              grown = grown-tree p goal (start .mates) OnTree OnSpare t st st′ grown closed;
+              grown = grown-tree p goal (start .mates) OnTree OnSpare t st st′ (x .0) closed;
               seen = x .0 .trees t (put-same (st .treeSeen) t true);
               closed = closed;
             })
         whole h st′ (inr x) = inr x
 
     -- How a search ends.
-    pub search-ends : (t : ℕ) → OnTree t → (goal < p .spares → start .spareSeen goal ≡ false) → start .met ≡ false → Visited p goal (start .mates) OnTree OnSpare start t (search p goal t start)
-    search-ends t o f h =
+    pub search-ends : (t : ℕ) → OnTree t → start .met ≡ false → Visited p goal (start .mates) OnTree OnSpare start t (search p goal t start)
+    search-ends t o h =
         tree-ends _ t start o
-        record { trees = λ x q. q; spares = λ x q. q; mates = λ x q. refl; ahead = f; unmet = h }
+        record { trees = λ x q. q; spares = λ x q. q; mates = λ x q. refl; goal-mate = refl; unmet = h }
         (omega arith)
 
     -- A search that does not meet its goal explores all; one that does turns the matching along a path to it.
-    pub search-fails : (t : ℕ) → OnTree t → (goal < p .spares → start .spareSeen goal ≡ false) → start .met ≡ false → search p goal t start .met ≡ false → Explored p goal (start .mates) OnTree OnSpare start t (search p goal t start)
-    search-fails t o f h e = elim (search-ends t o f h) [ inl x ↦ x | inr x ↦ clash (x .0) e ]
+    pub search-fails : (t : ℕ) → OnTree t → start .met ≡ false → search p goal t start .met ≡ false → Explored p goal (start .mates) OnTree OnSpare start t (search p goal t start)
+    search-fails t o h e = elim (search-ends t o h) [ inl x ↦ x | inr x ↦ clash (x .0) e ]
 
-    pub search-turns : (t : ℕ) → OnTree t → (goal < p .spares → start .spareSeen goal ≡ false) → start .met ≡ false → search p goal t start .met ≡ true → AugmentingPath p goal (start .mates) (start .mates) t (search p goal t start .mates)
-    search-turns t o f h e = elim (search-ends t o f h) [ inl x ↦ clash e (x .grown .unmet) | inr x ↦ x .1 ]
+    pub search-turns : (t : ℕ) → OnTree t → start .met ≡ false → search p goal t start .met ≡ true → AugmentingPath p goal (start .mates) (start .mates) t (search p goal t start .mates)
+    search-turns t o h e = elim (search-ends t o h) [ inl x ↦ clash e (x .grown .unmet) | inr x ↦ x .1 ]
 
     -- A search without a goal explores all.
     pub search-explores : (t : ℕ) → OnTree t → start .met ≡ false → goal ≡ p .spares → Explored p goal (start .mates) OnTree OnSpare start t (search p goal t start)
-    search-explores t o h e = all (search-ends t o (λ l. absurd (omega arith)) h)
+    search-explores t o h e = all (search-ends t o h)
       where
         all : Visited p goal (start .mates) OnTree OnSpare start t (search p goal t start) → Explored p goal (start .mates) OnTree OnSpare start t (search p goal t start)
         all (inl x) = x
@@ -435,30 +384,27 @@ Always i = Unit {0}
 pub kept-always : (p : Problem) (start : Search) → Kept p start Always Always
 kept-always p start = record { to-spare = λ t s l o c f. tt; to-mate = λ s t l o e f. tt }
 
--- What a search that fails visits, the search for it meets.
-pub search-meets : (p : Problem) (start : Search) → ((s t : ℕ) → s < p .spares → start .mates s ≡ suc t → t < p .trees) → start .met ≡ false → (t other goal : ℕ) → (other < p .spares → start .spareSeen other ≡ false) → search p other t start .met ≡ false → search p other t start .spareSeen goal ≡ true → start .spareSeen goal ≡ false → AugmentingPath p goal (start .mates) (start .mates) t (search p goal t start .mates)
-search-meets p start below unmet t other goal a n h f = at-end (search-ends p goal start Always Always (kept-always p start) below t tt (λ _. f) unmet)
+-- If a search that fails has visited a tree rank that the goal covers, the search for the goal meets it.
+pub search-meets : (p : Problem) (start : Search) → ((s t : ℕ) → s < p .spares → start .mates s ≡ suc t → t < p .trees) → start .met ≡ false → (t other goal x : ℕ) → search p other t start .met ≡ false → search p other t start .treeSeen x ≡ true → start .treeSeen x ≡ false → goal < p .spares → p .covers x goal ≡ true → AugmentingPath p goal (start .mates) (start .mates) t (search p goal t start .mates)
+search-meets p start below unmet t other goal x n h f l c = at-end (search-ends p goal start Always Always (kept-always p start) below t tt unmet)
   where
     out : Search
     out = search p goal t start
 
     OnTree : ℕ → Type 0
-    OnTree x = (s : ℕ) → s < p .spares → p .covers x s ≡ true → out .spareSeen s ≡ true
+    OnTree y = TreeClosed p goal Always (out .spareSeen) y
 
     OnSpare : ℕ → Type 0
     OnSpare s = (out .spareSeen s ≡ true) × (start .spareSeen s ≡ false)
 
-    on-tree : Explored p goal (start .mates) Always Always start t out → (x : ℕ) → start .treeSeen x ≡ false → out .treeSeen x ≡ true → OnTree x
-    on-tree e x a b = elim (e .grown .new-tree x b) [ inl q ↦ clash q a | inr c ↦ c .tried ]
+    on-tree : Explored p goal (start .mates) Always Always start t out → (y : ℕ) → start .treeSeen y ≡ false → out .treeSeen y ≡ true → OnTree y
+    on-tree e y a b = elim (e .grown .new-tree y b) [ inl q ↦ clash q a | inr k ↦ k ]
 
-    to-mate : Explored p goal (start .mates) Always Always start t out → (s x : ℕ) → s < p .spares → OnSpare s → start .mates s ≡ suc x → start .treeSeen x ≡ false → OnTree x
-    to-mate e s x l o q a = elim (e .grown .new-spare s (o .0)) [ inl k ↦ clash k (o .1) | inr c ↦ on-tree e x a (c .followed x q) ]
-
-    missed : Explored p goal (start .mates) Always Always start t out → OnSpare goal → ⊥
-    missed e o = elim (e .grown .new-spare goal (o .0)) [ inl k ↦ clash k (o .1) | inr c ↦ c .missed refl ]
+    to-mate : Explored p goal (start .mates) Always Always start t out → (s y : ℕ) → s < p .spares → OnSpare s → start .mates s ≡ suc y → start .treeSeen y ≡ false → OnTree y
+    to-mate e s y m o q a = elim (e .grown .new-spare s (o .0)) [ inl k ↦ clash k (o .1) | inr k ↦ on-tree e y a (k .followed y q) ]
 
     at-end : Visited p goal (start .mates) Always Always start t out → AugmentingPath p goal (start .mates) (start .mates) t (out .mates)
-    at-end (inr x) = x .1
+    at-end (inr k) = k .1
     at-end (inl e) =
-        let all : Explored p other (start .mates) OnTree OnSpare start t (search p other t start) = search-fails p other start OnTree OnSpare record { to-spare = λ x s l o c a. (o s l c, a); to-mate = to-mate e } below t (e .closed .tried) a unmet n in
-        elim (all .grown .new-spare goal h) [ inl k ↦ clash k f | inr c ↦ absurd (missed e (c .holds)) ]
+        let all : Explored p other (start .mates) OnTree OnSpare start t (search p other t start) = search-fails p other start OnTree OnSpare record { to-spare = λ y s m o q a. (o .tried s m q, a); to-mate = to-mate e } below t (e .closed) unmet n in
+        elim (all .grown .new-tree x h) [ inl k ↦ clash k f | inr k ↦ clash c (k .holds .missed l) ]

@@ -1,7 +1,9 @@
 -- The model of the answer to a graph with a marked tree and old costs: ranks, matching and labels, taken back to
 -- edges. Definitions only. Assumes nothing.
 use Prim.Native.Nat.{ℕ, zero, suc, _+_, _-_}
+use mathlib.Core.Bool.{_&&_}
 use mathlib.Core.List.{List, [], _∷_}
+use lib.Dec.{ltb}
 use lib.ListN.{length, getD}
 use Rattle.loops.specs.Loop.{scan, put, sum, gather, tabulate}
 use Rattle.graph.specs.Graph.{Graph, EdgeSet}
@@ -11,7 +13,8 @@ use Rattle.optimum.specs.Optimum.{Pair, Answer}
 use Rattle.optimum.specs.Search.{Problem, Mates, matching}
 use Rattle.optimum.specs.Lowest.{Labels, labels}
 
--- The edges by rank.
+-- The edges by rank. Related are a tree edge and a cheaper non-tree edge that covers it. One that costs no less needs no
+-- care: the answer raises no tree edge and lowers no non-tree edge (RankCriterion.antt).
 abbrev pub problem : Graph → EdgeSet → (ℕ → ℕ) → Problem
 problem g tr c =
     let ts : List ℕ = treeRanks g tr c in
@@ -20,7 +23,7 @@ problem g tr c =
     record {
       trees = length ts;
       spares = length ss;
-      covers = λ t s. coversRank g r (getD ss s 0) t;
+      covers = λ t s. coversRank g r (getD ss s 0) t && ltb (c (getD ss s 0)) (c (getD ts t 0));
       treeCost = λ t. c (getD ts t 0);
       spareCost = λ s. c (getD ss s 0);
     }

@@ -40,7 +40,7 @@ use Rattle.optimum.specs.Solution.{
   pairs-apart,
   pairs-weight,
 }
-use Rattle.optimum.specs.RankCriterion.{rank-covers, rank-criterion}
+use Rattle.optimum.specs.RankCriterion.{rank-covers, minimum-feasible, feasible-minimum}
 
 -- The matching and the labels of the answer.
 abbrev pub matesOf : Graph → EdgeSet → (ℕ → ℕ) → Mates
@@ -109,8 +109,10 @@ module _ (g : Graph) (tr : EdgeSet) (c : ℕ → ℕ) where
   module _ (sound : Sound g) (tree : SpanningTree g tr) where
     pub solve-minimum : Minimum g tr (chosen (solve g tr c))
     solve-minimum =
-        rank-criterion sound tree c (chosen (solve g tr c)) .1
+        feasible-minimum sound tree c (chosen (solve g tr c))
         (λ t s h l q. rw (tree-cost t h, spare-cost s l) (solve-slack .feasible t s h l q))
+        (λ t h. rw (tree-cost t h) (solve-slack .below t h))
+        (λ s l. rw (spare-cost s l) (solve-slack .above s l))
 
     mated-pair :
         (e x : ℕ) → Mated (treeRanks g tr c) (spareRanks g tr c) (matesOf g tr c) e x
@@ -125,7 +127,7 @@ module _ (g : Graph) (tr : EdgeSet) (c : ℕ → ℕ) where
           spare-below = spare-lists g tr c .below (m .spareRank) (m .below);
           spare-in = spare-lists g tr c .inside (m .spareRank) (m .below);
           covers =
-              rank-covers sound tree c (m .treeRank) (m .spareRank) below (m .below) .0
+              rank-covers sound tree c (m .treeRank) (m .spareRank) below (m .below)
               (solve-valid .covers (m .spareRank) (m .treeRank) (m .below) (m .mate));
         }
 
@@ -157,14 +159,14 @@ module _ (g : Graph) (tr : EdgeSet) (c : ℕ → ℕ) where
       pub solve-fewest : (d : Costs) → Minimum g tr d → solve g tr c .steps ≤ deviation g c d
       solve-fewest d m =
           rw (steps-weight, rank-deviation g tr c whole d)
-          (weak (problem g tr c) (matesOf g tr c) (byRank g tr c d) solve-valid (rank-criterion sound tree c d .0 m))
+          (weak (problem g tr c) (matesOf g tr c) (byRank g tr c d) solve-valid (minimum-feasible sound tree c d m))
 
       pub solve-lowest :
           (d : Costs) → Minimum g tr d → deviation g c d ≡ solve g tr c .steps → (e : ℕ) → e < g .edges
           → chosen (solve g tr c) e ≤ℤ d e
       solve-lowest d m q e h =
           let slack : Slack (problem g tr c) (matesOf g tr c) (byRank g tr c d) =
-          equal-slack (problem g tr c) (matesOf g tr c) (byRank g tr c d) solve-valid (rank-criterion sound tree c d .0 m)
+          equal-slack (problem g tr c) (matesOf g tr c) (byRank g tr c d) solve-valid (minimum-feasible sound tree c d m)
           (sym (rank-deviation g tr c whole d) ∙ q ∙ steps-weight) in
           let least = labels-lowest (problem g tr c) (ranked g tr c) (matesOf g tr c) solve-valid (byRank g tr c d) slack in
           elim (edge-rank g tr c whole e h) [

@@ -1,6 +1,6 @@
--- Ranks: the merge sort's model on lists, the keys that edges are sorted by, and their laws.
-pub mod Merge
-pub mod MergeLaws
-pub mod RunLaws
+-- Ranks: the radix sort on lists, the keys that edges are sorted by, and their laws.
+pub mod Radix
+pub mod RadixLaws
+pub mod PassLaws
 pub mod Keys
 pub mod KeysLaws

@@ -7,10 +7,10 @@ use Rattle.loops.specs.Loop.{choose, scan}
 use Rattle.leb128.specs.Number.{encode, extend, decode}
 use Rattle.frame.specs.Questions.{front, divide, linksOf, question2, question3, question4, question5, question6, refusal, jobOf}
 use Rattle.frame.specs.Answers.{answerFrame, answerOf}
-use Rattle.loops.specs.Loop.{sum, allBelow, first, gather}
+use Rattle.loops.specs.Loop.{sum, allBelow, first, last, pick, gather}
 use Rattle.graph.specs.Rank.{insert, sorted}
-use Rattle.graph.specs.Paths.{grow, sweeps, judge}
-use Rattle.optimum.specs.Search.{follow, trySpare, tryTree, augment}
+use Rattle.graph.specs.Paths.{grow, expandAll, judge}
+use Rattle.optimum.specs.Search.{follow, trySpares, tryTree, augment}
 use Rattle.optimum.specs.Lowest.{labelTree, mateSearch, labelSpare, labelFrom}
 use Rattle.optimum.specs.Solve.{join, pairAt, solve}
 use mathlib.Core.Bool.{xor}
@@ -44,5 +44,5 @@ rows =
     []
 
 pub rows-hold : map (λ (r : Row). resultOf (r .job)) rows ≡ map (λ (r : Row). r .result) rows
-unfolding linksOf question2 question3 question4 question5 question6 flatMap encode extend decode front divide scan sum allBelow first gather insert sorted grow sweeps judge follow trySpare tryTree augment labelTree mateSearch labelSpare labelFrom join pairAt solve xor
+unfolding linksOf question2 question3 question4 question5 question6 flatMap encode extend decode front divide scan sum allBelow first last pick gather insert sorted grow expandAll judge follow trySpares tryTree augment labelTree mateSearch labelSpare labelFrom join pairAt solve xor
 rows-hold = refl

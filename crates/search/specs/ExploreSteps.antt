@@ -6,8 +6,7 @@ use mathlib.Core.Bool.{Bool, false, not}
 use mathlib.Core.List.{List}
 use lib.Dec.{eqb}
 use borrow.Author.Tests.{le-ltb}
-use Rattle.loops.specs.Loop.{scan}
-use Rattle.optimum.specs.Search.{Problem, Mates, Search, seeTree, seeFree, trySpare, tryTree, search}
+use Rattle.optimum.specs.Search.{Problem, Mates, Search, seeTree, trySpares, tryTree, search}
 use Rattle.optimum.specs.SearchLaws.{Explored, Always, kept-always, search-explores}
 use Rattle.search.specs.State.{matesOf, stateOf, Below, Taken, Ready, TreeTried, Suits, Swept}
 use Rattle.search.specs.TreeSteps.{rowsProblem, rows-problem}
@@ -18,7 +17,7 @@ unfolding tryTree
 no-goal p goal other l m zero t st = refl
 no-goal p goal other l m (suc depth) t st =
     rw (le-ltb goal (p .spares) l, le-ltb other (p .spares) m)
-    (ap (λ (visit : ℕ → Search → Search). scan (trySpare p visit t) (p .spares) 0 (seeFree p t (seeTree t st)))
+    (ap (λ (visit : ℕ → Search → Search). trySpares p visit t (p .spares) (seeTree t st))
     (fun-ext (λ u. fun-ext (no-goal p goal other l m depth u))))
 
 -- Mates that are the same have the same bounds and leave the same ranks matched.
@@ -33,31 +32,31 @@ module _
     (t : ℕ)
     (rows mates : List ℕ)
     (trees : ℕ)
-    (seen mates′ : List ℕ)
+    (live mates′ : List ℕ)
     (trees′ : ℕ)
-    (seen′ : List ℕ)
+    (live′ : List ℕ)
     (met : Bool)
-    (tried : TreeTried t 256 rows mates trees seen mates′ trees′ seen′ met)
+    (tried : TreeTried t 256 rows mates trees live mates′ trees′ live′ met)
   where
     abbrev start : Search
-    start = stateOf mates trees seen false
+    start = stateOf mates trees live false
 
-    whole : (p : Problem) → Suits p rows mates → t < p .trees → stateOf mates′ trees′ seen′ met ≡ search p (p .spares) t start
+    whole : (p : Problem) → Suits p rows mates → t < p .trees → stateOf mates′ trees′ live′ met ≡ search p (p .spares) t start
     whole p h l =
         tried .equal p (p .trees) (h .rows-are) (h .below) l (omega arith)
         ∙ no-goal p 256 (p .spares) (h .rows-are .few) (omega arith) (suc (p .trees)) t start
 
-    pub swept : (taken : List ℕ) → Ready t taken mates seen → Swept t rows mates trees seen mates′ trees′ seen′
-    swept taken r =
+    pub swept : Ready t mates live → Swept t rows mates trees live mates′ trees′ live′
+    swept r =
         record {
           mates-length = tried .mates-length;
-          seen-length = tried .seen-length;
+          live-length = tried .live-length;
           same = ap (λ (st : Search). st .mates) alone ∙ explored .grown .mates;
-          equal = λ p h l. ap (stateOf mates′ trees′ seen′) (sym unmet) ∙ whole p h l;
+          equal = λ p h l. ap (stateOf mates′ trees′ live′) (sym unmet) ∙ whole p h l;
         }
       where
         -- The rows alone tell that nothing is met.
-        alone : stateOf mates′ trees′ seen′ met ≡ search (rowsProblem rows) 256 t start
+        alone : stateOf mates′ trees′ live′ met ≡ search (rowsProblem rows) 256 t start
         alone = whole (rowsProblem rows) (record { rows-are = rows-problem rows; below = r .below }) (r .rank)
 
         explored : Explored (rowsProblem rows) 256 (matesOf mates) Always Always start t (search (rowsProblem rows) 256 t start)

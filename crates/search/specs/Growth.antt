@@ -4,14 +4,13 @@ use Prim.Native.Nat.{ℕ, zero, suc, _≤_, _<_}
 use native.Mathlib.Decide.{ℕ-discrete}
 use native.Mathlib.Omega.{arith}
 use mathlib.Core.Path.{_≡_, refl, sym, _∙_}
-use mathlib.Core.Bool.{true, false, cond, not, _&&_, _||_}
+use mathlib.Core.Bool.{true, false, cond, _&&_}
 use lib.Dec.{ltb, eqb}
 use borrow.Author.Tests.{ne-eqb}
-use Rattle.loops.specs.Loop.{scan, put}
-use Rattle.loops.specs.TestLaws.{clash, or-neither, cond-both, choose-both}
+use Rattle.loops.specs.Loop.{put}
+use Rattle.loops.specs.TestLaws.{clash, cond-both, choose-both}
 use Rattle.loops.specs.PutLaws.{put-same, put-other, put-kept}
-use Rattle.loops.specs.ScanLaws.{scan-keeps}
-use Rattle.optimum.specs.Search.{Problem, Search, seeTree, seeSpare, seeFree, match, reachGoal, follow, trySpare, tryTree}
+use Rattle.optimum.specs.Search.{Problem, Search, seeTree, seeSpare, match, reachGoal, follow, nextSpare, trySpares, tryTree}
 
 -- A state that a search may reach from `base`, when no mate is past tree rank n - 1.
 pub record Reached (n : ℕ) (base st : Search) : Type 0 where
@@ -50,10 +49,6 @@ module _ (n : ℕ) where
           free = h .free;
         }
 
-    see-free : (p : Problem) (t : ℕ) (st : Search) → Reached n base st → Reached n base (seeFree p t st)
-    see-free p t st h =
-        record { below = h .below; trees = h .trees; spares = λ x q. rw (h .spares x q); free = h .free }
-
     -- A matched rank is matched to another.
     rematch : (t s : ℕ) (st : Search) → t < n → eqb (base .mates s) 0 ≡ false → Reached n base st → Reached n base (match t s st)
     rematch t s st l some h =
@@ -73,7 +68,7 @@ module _ (n : ℕ) where
     -- The steps, if the visits of mates keep it.
     module _
         (visit : ℕ → Search → Search)
-        (visits : (t : ℕ) (st : Search) → t < n → Reached n base st → Reached n base (visit t st))
+        (visits : (t : ℕ) (st : Search) → t < n → st .met ≡ false → Reached n base st → Reached n base (visit t st))
       where
         pub follow-reaches : (t s : ℕ) (st : Search) → t < n → st .met ≡ false → Reached n base st → (mate : ℕ) → st .mates s ≡ mate → Reached n base (follow visit t s mate st)
         unfolding follow
@@ -82,7 +77,7 @@ module _ (n : ℕ) where
             choose-both (Reached n base) (st .treeSeen t′) (λ _. st)
             (λ _. let next : Search = visit t′ (match t s st) in cond (next .met) next (match t′ s next))
             (λ _. h)
-            (λ _. after (visit t′ (match t s st)) (visits t′ (match t s st) within (rematch t s st l some h)))
+            (λ _. after (visit t′ (match t s st)) (visits t′ (match t s st) within m (rematch t s st l some h)))
           where
             within : t′ < n
             within = omega (arith, h .below s)
@@ -94,25 +89,28 @@ module _ (n : ℕ) where
             after next k =
                 cond-both (Reached n base) (next .met) next (match t′ s next) (λ _. k) (λ _. rematch t′ s next within some k)
 
-        spare-reaches : (p : Problem) (t s : ℕ) (st : Search) → t < n → Reached n base st → Reached n base (trySpare p visit t s st)
-        unfolding trySpare
-        spare-reaches p t s st l h =
-            choose-both (Reached n base) (st .met || not (p .covers t s) || st .spareSeen s) (λ _. st)
-            (λ _. follow visit t s (st .mates s) (seeSpare s st))
+        spares-reach : (p : Problem) (t turns : ℕ) (st : Search) → t < n → st .met ≡ false → Reached n base st → Reached n base (trySpares p visit t turns st)
+        unfolding trySpares
+        spares-reach p t zero st l m h = h
+        spares-reach p t (suc turns) st l m h =
+            choose-both (Reached n base) (ltb s (p .spares)) _ _
+            (λ _. choose-both (Reached n base) (next .met) _ _ (λ _. reached) (λ q. spares-reach p t turns next l q reached))
             (λ _. h)
-            (λ q. follow-reaches t s (seeSpare s st) l (unmet q) (see-spare s st h) (st .mates s) refl)
           where
-            unmet : (st .met || not (p .covers t s) || st .spareSeen s) ≡ false → st .met ≡ false
-            unmet q = or-neither (st .met) (not (p .covers t s)) (or-neither (st .met || not (p .covers t s)) (st .spareSeen s) q .0) .0
+            s : ℕ
+            s = nextSpare p t st
 
-    pub tree-reaches : (p : Problem) (goal depth t : ℕ) (st : Search) → t < n → Reached n base st → Reached n base (tryTree p goal depth t st)
+            next : Search
+            next = follow visit t s (st .mates s) (seeSpare s st)
+
+            reached : Reached n base next
+            reached = follow-reaches t s (seeSpare s st) l m (see-spare s st h) (st .mates s) refl
+
+    pub tree-reaches : (p : Problem) (goal depth t : ℕ) (st : Search) → t < n → st .met ≡ false → Reached n base st → Reached n base (tryTree p goal depth t st)
     unfolding tryTree
-    tree-reaches p goal zero t st l h = h
-    tree-reaches p goal (suc depth) t st l h =
+    tree-reaches p goal zero t st l m h = h
+    tree-reaches p goal (suc depth) t st l m h =
         choose-both (Reached n base) (ltb goal (p .spares) && p .covers t goal) (λ _. reachGoal (match t goal st))
-        (λ _. scan (trySpare p (tryTree p goal depth) t) (p .spares) 0 (seeFree p t (seeTree t st)))
+        (λ _. trySpares p (tryTree p goal depth) t (p .spares) (seeTree t st))
         (λ _. goal-met t goal st l h)
-        (λ _.
-        scan-keeps (trySpare p (tryTree p goal depth) t) (Reached n base) (p .spares) 0 (seeFree p t (seeTree t st))
-        (see-free p t (seeTree t st) (see-tree t st h))
-        (λ s st′ _ _. spare-reaches (tryTree p goal depth) (tree-reaches p goal depth) p t s st′ l))
+        (λ _. spares-reach (tryTree p goal depth) (tree-reaches p goal depth) p t (p .spares) (seeTree t st) l m (see-tree t st h))

@@ -16,10 +16,11 @@ use Rattle.optimum.specs.Search.{Problem, Mates, Search, seeSpare, follow, tryT
 abbrev pub matesOf : List ℕ → Mates
 matesOf mates s = getD mates s 0
 
--- The search's state: the mates, the tree ranks seen in a word, the spare ranks seen in four words, and whether the goal was met.
+-- The search's state: the mates, the tree ranks seen in a word, the live spare ranks, which are those not seen, in four
+-- words, and whether the goal was met.
 abbrev pub stateOf : List ℕ → ℕ → List ℕ → Bool → Search
-stateOf mates trees spares met =
-    record { mates = matesOf mates; treeSeen = bit trees; spareSeen = member spares; met = met }
+stateOf mates trees live met =
+    record { mates = matesOf mates; treeSeen = bit trees; spareSeen = λ s. not (member live s); met = met }
 
 -- No mate is past tree rank n - 1.
 abbrev pub Below : ℕ → List ℕ → Type 0
@@ -36,30 +37,29 @@ pub record Rows (p : Problem) (rows : List ℕ) : Type 0 where
   pub past : (t s : ℕ) → t < p .trees → p .spares ≤ s → s < 256 → inRow rows t s ≡ false
 
 -- What a search needs.
-pub record Ready (t : ℕ) (taken mates spares : List ℕ) : Type 0 where
+pub record Ready (t : ℕ) (mates live : List ℕ) : Type 0 where
   pub rank : t < 64
   pub mates-length : length mates ≡ 256
-  pub seen-length : length spares ≡ 4
+  pub live-length : length live ≡ 4
   pub below : Below 64 mates
-  pub taken-are : Taken mates taken
 
 -- What a search leaves: sizes, and the model's state. The depth k is any that the tree ranks not yet seen allow.
-pub record TreeTried (t goal : ℕ) (rows mates : List ℕ) (trees : ℕ) (spares mates′ : List ℕ) (trees′ : ℕ) (spares′ : List ℕ) (met : Bool) : Type 0 where
+pub record TreeTried (t goal : ℕ) (rows mates : List ℕ) (trees : ℕ) (live mates′ : List ℕ) (trees′ : ℕ) (live′ : List ℕ) (met : Bool) : Type 0 where
   pub mates-length : length mates′ ≡ 256
-  pub seen-length : length spares′ ≡ 4
+  pub live-length : length live′ ≡ 4
   pub equal :
       (p : Problem) (k : ℕ) → Rows p rows → Below (p .trees) mates → t < p .trees
       → p .trees ≤ k + count (p .trees) (put (bit trees) t true)
-      → stateOf mates′ trees′ spares′ met ≡ tryTree p goal (suc k) t (stateOf mates trees spares false)
+      → stateOf mates′ trees′ live′ met ≡ tryTree p goal (suc k) t (stateOf mates trees live false)
 
--- What trying spare rank s, a matched one, leaves.
-pub record SpareTried (t s goal : ℕ) (rows mates : List ℕ) (trees : ℕ) (spares mates′ : List ℕ) (trees′ : ℕ) (spares′ : List ℕ) (met : Bool) : Type 0 where
+-- What trying spare rank s leaves.
+pub record SpareTried (t s goal : ℕ) (rows mates : List ℕ) (trees : ℕ) (live mates′ : List ℕ) (trees′ : ℕ) (live′ : List ℕ) (met : Bool) : Type 0 where
   pub mates-length : length mates′ ≡ 256
-  pub seen-length : length spares′ ≡ 4
+  pub live-length : length live′ ≡ 4
   pub equal :
       (p : Problem) (k : ℕ) → Rows p rows → Below (p .trees) mates → t < p .trees
       → p .trees ≤ k + count (p .trees) (bit trees)
-      → stateOf mates′ trees′ spares′ met ≡ follow (tryTree p goal k) t s (getD mates s 0) (seeSpare s (stateOf mates trees spares false))
+      → stateOf mates′ trees′ live′ met ≡ follow (tryTree p goal k) t s (getD mates s 0) (seeSpare s (stateOf mates trees live false))
 
 -- The arrays hold a problem's rows and mates.
 pub record Suits (p : Problem) (rows mates : List ℕ) : Type 0 where
@@ -67,10 +67,10 @@ pub record Suits (p : Problem) (rows mates : List ℕ) : Type 0 where
   pub below : Below (p .trees) mates
 
 -- What a search without a goal leaves: sizes, the mates as they were, and the model's state.
-pub record Swept (t : ℕ) (rows mates : List ℕ) (trees : ℕ) (seen mates′ : List ℕ) (trees′ : ℕ) (seen′ : List ℕ) : Type 0 where
+pub record Swept (t : ℕ) (rows mates : List ℕ) (trees : ℕ) (live mates′ : List ℕ) (trees′ : ℕ) (live′ : List ℕ) : Type 0 where
   pub mates-length : length mates′ ≡ 256
-  pub seen-length : length seen′ ≡ 4
+  pub live-length : length live′ ≡ 4
   pub same : matesOf mates′ ≡ matesOf mates
   pub equal :
       (p : Problem) → Suits p rows mates → t < p .trees
-      → stateOf mates′ trees′ seen′ false ≡ search p (p .spares) t (stateOf mates trees seen false)
+      → stateOf mates′ trees′ live′ false ≡ search p (p .spares) t (stateOf mates trees live false)

@@ -1,87 +1,41 @@
--- The steps in which a tree rank goes through its spare ranks: the goal, the unmatched ones at once, then the matched ones:
--- the code jumps to the next one that covers it and was not seen, the model scans them all, and at every other rank does
--- nothing. Assumes nothing.
+-- The steps in which a tree rank goes through its spare ranks: the goal, then the live ones, in the model's order.
+-- Assumes nothing.
 use Prim.Native.Nat.{ℕ, zero, suc, _+_, _-_, _*_, _≤_, _<_}
-use native.Mathlib.Nat.{add-zero, zero-add}
 use native.Mathlib.Numerals.{add-one}
 use native.Mathlib.Decide.{decLt, ℕ-discrete}
 use native.Mathlib.Omega.{arith}
-use mathlib.Core.Path.{_≡_, refl, sym, ap, _∙_, fun-ext}
+use mathlib.Core.Path.{_≡_, refl, sym, ap, _∙_}
 use mathlib.Core.Logic.{inl, inr}
 use mathlib.Core.Bool.{Bool, true, false, not, _&&_, _||_, Bool·not-not}
 use mathlib.Core.List.{List}
 use lib.Dec.{ltb, eqb}
 use lib.ListN.{length, getD, set, length-set}
-use borrow.Author.Tests.{lt-ltb, le-ltb, ltb-true, eqb-false, not-true}
-use Rattle.loops.specs.Loop.{scan, put, first}
+use borrow.Author.Tests.{lt-ltb, le-ltb, ltb-true}
+use Rattle.loops.specs.Loop.{choose, put, pick}
 use Rattle.loops.specs.TestLaws.{truth, and-first, and-second, clash}
-use Rattle.loops.specs.PutLaws.{put-same, put-kept}
-use Rattle.loops.specs.ScanLaws.{scan-start, scan-turn}
-use Rattle.loops.specs.FirstLaws.{First, first-is}
+use Rattle.loops.specs.PutLaws.{put-same, put-other, put-kept}
+use Rattle.loops.specs.FirstLaws.{pick-is, pick-same}
 use Rattle.bits.specs.Bit.{bit}
 use Rattle.bits.specs.ChangeLaws.{added}
 use Rattle.sets.specs.Sets.{member, inRow}
-use Rattle.sets.specs.SetsLaws.{member-past}
 use Rattle.graph.specs.Graph.{count}
 use Rattle.graph.specs.CountLaws.{count-put, count-below, count-within}
-use Rattle.optimum.specs.Search.{Problem, Search, seeTree, seeSpare, seeFree, match, reachGoal, follow, trySpare, tryTree}
-use Rattle.search.specs.State.{matesOf, stateOf, Below, Taken, Rows, TreeTried, SpareTried}
+use Rattle.optimum.specs.Search.{Problem, Search, seeTree, seeSpare, match, reachGoal, follow, nextSpare, trySpares, tryTree}
+use Rattle.search.specs.State.{stateOf, Below, Rows, TreeTried, SpareTried}
 use Rattle.search.specs.Growth.{Reached, reached-start, follow-reaches, tree-reaches}
 use Rattle.search.specs.SpareSteps.{state-tree, state-match}
 
--- Turns that do nothing may be left out.
-module _ {A : Type 0} (body : ℕ → A → A) (n : ℕ) (st : A) where
-  scan-skip : (d i : ℕ) → i + d ≤ n → ((j : ℕ) → j < i + d → body j st ≡ st) → scan body (n - i) i st ≡ scan body (n - (i + d)) (i + d) st
-  scan-skip zero i l h = rw (add-zero i)
-  scan-skip (suc d) i l h =
-      let e : (i + 1) + d ≡ i + suc d = omega arith in
-      scan-turn body n i st (omega arith) ∙ ap (scan body (n - (i + 1)) (i + 1)) (h i (omega arith))
-      ∙ rw e at (scan-skip d (i + 1) (omega arith) (λ j k. h j (omega arith)))
+-- The model's loop: it ends when none is left, and else goes on behind the one that is next.
+module _ (p : Problem) (visit : ℕ → Search → Search) (t : ℕ) (st : Search) where
+  spares-none : (turns : ℕ) → p .spares ≤ nextSpare p t st → trySpares p visit t turns st ≡ st
+  unfolding trySpares
+  spares-none zero l = refl
+  spares-none (suc turns) l = rw (le-ltb (nextSpare p t st) (p .spares) l)
 
-  scan-from : (j : ℕ) → j ≤ n → ((i : ℕ) → i < j → body i st ≡ st) → scan body n 0 st ≡ scan body (n - j) j st
-  scan-from j l h =
-      sym (scan-start body n st)
-      ∙ rw (zero-add j) at (scan-skip j 0 (omega arith) (λ i k. h i (omega arith)))
-
-  scan-idle : ((i : ℕ) → i < n → body i st ≡ st) → scan body n 0 st ≡ st
-  unfolding scan
-  scan-idle h = let e : n - n ≡ 0 = omega arith in scan-from n (omega arith) h ∙ rw e
-
-seen-idle : (c v : Bool) → v ≡ true → (not c || v) ≡ true
-seen-idle true v h = h
-seen-idle false v h = refl
-
-still-not-fresh : (c v v′ : Bool) → (c && not v) ≡ false → (v ≡ true → v′ ≡ true) → (not c || v′) ≡ true
-still-not-fresh true true v′ h k = k refl
-still-not-fresh true false v′ h k = clash refl h
-still-not-fresh false v v′ h k = refl
-
-taken-left : (v c k : Bool) → c ≡ true → (v || (c && not k)) ≡ false → k ≡ true
-taken-left v c true e h = refl
-taken-left true c false e h = clash refl h
-taken-left false c false e h = clash (rw e) h
-
--- A first that was found.
-pub first-within : (n : ℕ) (P : ℕ → Bool) (s : ℕ) → s ≡ first n P → (s ≡ n → ⊥) → s < n
-first-within n P s e d = omega (arith, first-is n P .within)
-
--- One spare rank.
-module _ (p : Problem) (visit : ℕ → Search → Search) (t s : ℕ) (st : Search) where
-  rank-idle : (st .met || not (p .covers t s) || st .spareSeen s) ≡ true → trySpare p visit t s st ≡ st
-  unfolding trySpare
-  rank-idle h = rw h
-
-  rank-met : st .met ≡ true → trySpare p visit t s st ≡ st
-  rank-met h = rank-idle (rw h)
-
-  rank-tried : st .met ≡ false → p .covers t s ≡ true → st .spareSeen s ≡ false → trySpare p visit t s st ≡ follow visit t s (st .mates s) (seeSpare s st)
-  unfolding trySpare
-  rank-tried m c v = rw (m, c, v)
-
-scan-met : (p : Problem) (visit : ℕ → Search → Search) (t turns i : ℕ) (st : Search) → st .met ≡ true → scan (trySpare p visit t) turns i st ≡ st
-unfolding scan
-scan-met p visit t zero i st h = refl
-scan-met p visit t (suc turns) i st h = rw (rank-met p visit t i st h) (scan-met p visit t turns (suc i) st h)
+  spares-next : (turns s : ℕ) → nextSpare p t st ≡ s → s < p .spares → (next : Search) → next ≡ follow visit t s (st .mates s) (seeSpare s st)
+      → trySpares p visit t (suc turns) st ≡ choose (next .met) (λ _. next) (λ _. trySpares p visit t turns next)
+  unfolding trySpares
+  spares-next turns s e l next q = rw (e, q, lt-ltb s (p .spares) l)
 
 -- The rows as a problem of their own.
 abbrev pub rowsProblem : List ℕ → Problem
@@ -92,28 +46,24 @@ pub rows-problem : (rows : List ℕ) → Rows (rowsProblem rows) rows
 rows-problem rows =
     record { few = omega arith; covered = λ t s l m. refl; past = λ t s l m k. absurd (omega arith) }
 
--- The ranks that are matched stay so.
-still-taken : (mates taken mates′ : List ℕ) → ((s : ℕ) → eqb (getD mates′ s 0) 0 ≡ eqb (getD mates s 0) 0) → Taken mates taken → Taken mates′ taken
-still-taken mates taken mates′ h k s l = k s l ∙ ap not (sym (h s))
-
 -- What trying a spare rank keeps.
-module _ (t s goal : ℕ) (rows mates : List ℕ) (trees : ℕ) (spares mates′ : List ℕ) (trees′ : ℕ) (spares′ : List ℕ) (met : Bool) where
-  spare-reached : t < 64 → Below 64 mates → SpareTried t s goal rows mates trees spares mates′ trees′ spares′ met
-      → (n : ℕ) → t < n → Below n mates → Reached n (seeSpare s (stateOf mates trees spares false)) (stateOf mates′ trees′ spares′ met)
+module _ (t s goal : ℕ) (rows mates : List ℕ) (trees : ℕ) (live mates′ : List ℕ) (trees′ : ℕ) (live′ : List ℕ) (met : Bool) where
+  spare-reached : t < 64 → Below 64 mates → SpareTried t s goal rows mates trees live mates′ trees′ live′ met
+      → (n : ℕ) → t < n → Below n mates → Reached n (seeSpare s (stateOf mates trees live false)) (stateOf mates′ trees′ live′ met)
   spare-reached l b h n k c =
       let p : Problem = rowsProblem rows in
-      let base : Search = seeSpare s (stateOf mates trees spares false) in
+      let base : Search = seeSpare s (stateOf mates trees live false) in
       rw (h .equal p 64 (rows-problem rows) b l (omega arith))
       (follow-reaches n base (tryTree p goal 64) (tree-reaches n base p goal 64) t s base k refl (reached-start n base c) (getD mates s 0) refl)
 
 -- What a search from a tree rank keeps.
-module _ (t goal : ℕ) (rows mates : List ℕ) (trees : ℕ) (spares mates′ : List ℕ) (trees′ : ℕ) (spares′ : List ℕ) (met : Bool) where
-  pub tree-reached : t < 64 → Below 64 mates → TreeTried t goal rows mates trees spares mates′ trees′ spares′ met
-      → (n : ℕ) → t < n → Below n mates → Reached n (stateOf mates trees spares false) (stateOf mates′ trees′ spares′ met)
+module _ (t goal : ℕ) (rows mates : List ℕ) (trees : ℕ) (live mates′ : List ℕ) (trees′ : ℕ) (live′ : List ℕ) (met : Bool) where
+  pub tree-reached : t < 64 → Below 64 mates → TreeTried t goal rows mates trees live mates′ trees′ live′ met
+      → (n : ℕ) → t < n → Below n mates → Reached n (stateOf mates trees live false) (stateOf mates′ trees′ live′ met)
   tree-reached l b h n k c =
       let p : Problem = rowsProblem rows in
-      let base : Search = stateOf mates trees spares false in
-      rw (h .equal p 64 (rows-problem rows) b l (omega arith)) (tree-reaches n base p goal 65 t base k (reached-start n base c))
+      let base : Search = stateOf mates trees live false in
+      rw (h .equal p 64 (rows-problem rows) b l (omega arith)) (tree-reaches n base p goal 65 t base k refl (reached-start n base c))
 
 -- The model's two ways from a tree rank.
 module _ (p : Problem) (goal depth t : ℕ) (st : Search) where
@@ -121,7 +71,7 @@ module _ (p : Problem) (goal depth t : ℕ) (st : Search) where
   unfolding tryTree
   tree-meets h = rw h
 
-  tree-scans : (ltb goal (p .spares) && p .covers t goal) ≡ false → tryTree p goal (suc depth) t st ≡ scan (trySpare p (tryTree p goal depth) t) (p .spares) 0 (seeFree p t (seeTree t st))
+  tree-scans : (ltb goal (p .spares) && p .covers t goal) ≡ false → tryTree p goal (suc depth) t st ≡ trySpares p (tryTree p goal depth) t (p .spares) (seeTree t st)
   unfolding tryTree
   tree-scans h = rw h
 
@@ -137,108 +87,109 @@ goal-same p rows r t goal l =
     ]
 
 -- The goal covers tree rank t.
-module _ (t goal : ℕ) (rows mates : List ℕ) (trees : ℕ) (spares : List ℕ) (hit : (ltb goal 256 && inRow rows t goal) ≡ true) where
+module _ (t goal : ℕ) (rows mates : List ℕ) (trees : ℕ) (live : List ℕ) (hit : (ltb goal 256 && inRow rows t goal) ≡ true) where
   pub goal-within : goal < 256
   goal-within = ltb-true goal 256 (and-first (ltb goal 256) (inRow rows t goal) hit)
 
-  pub tree-hit : length mates ≡ 256 → length spares ≡ 4 → TreeTried t goal rows mates trees spares (set mates goal (t + 1)) trees spares true
-  tree-hit size seen-size =
+  pub tree-hit : length mates ≡ 256 → length live ≡ 4 → TreeTried t goal rows mates trees live (set mates goal (t + 1)) trees live true
+  tree-hit size live-size =
       record {
         mates-length = length-set mates goal (t + 1) ∙ size;
-        seen-length = seen-size;
+        live-length = live-size;
         equal = λ p k r b l d.
-            state-match mates trees spares true t goal (t + 1) (omega (arith, goal-within)) (add-one t)
-            ∙ sym (tree-meets p goal k t (stateOf mates trees spares false) (goal-same p rows r t goal l ∙ hit));
+            state-match mates trees live true t goal (t + 1) (omega (arith, goal-within)) (add-one t)
+            ∙ sym (tree-meets p goal k t (stateOf mates trees live false) (goal-same p rows r t goal l ∙ hit));
       }
 
--- The goal does not cover tree rank t, which is marked, and so are the unmatched spare ranks that cover it.
-pub record Entered (t goal : ℕ) (rows taken mates : List ℕ) (trees : ℕ) (spares : List ℕ) (trees₀ : ℕ) (spares₀ : List ℕ) : Type 0 where
+-- The goal does not cover tree rank t, which is marked.
+pub record Entered (t goal : ℕ) (rows : List ℕ) (trees trees₀ : ℕ) : Type 0 where
   pub missed : (ltb goal 256 && inRow rows t goal) ≡ false
-  pub size : length spares ≡ 4
-  pub size₀ : length spares₀ ≡ 4
-  pub taken-are : Taken mates taken
   pub marked : (j : ℕ) → bit trees₀ j ≡ (bit trees j || eqb t j)
-  pub free : (s : ℕ) → s < 256 → member spares₀ s ≡ (member spares s || (inRow rows t s && not (member taken s)))
 
-module _
-    (t goal : ℕ)
-    (rows taken mates : List ℕ)
-    (trees : ℕ)
-    (spares : List ℕ)
-    (trees₀ : ℕ)
-    (spares₀ : List ℕ)
-    (en : Entered t goal rows taken mates trees spares trees₀ spares₀)
-  where
-    free-same : (p : Problem) → Rows p rows → t < p .trees → (s : ℕ)
-        → member spares₀ s ≡ (member spares s || (ltb s (p .spares) && p .covers t s && eqb (getD mates s 0) 0))
-    free-same p r l s =
-        elim (decLt s 256) [
-          | yes k ↦ en .free s k ∙ rw (en .taken-are s k, Bool·not-not (eqb (getD mates s 0) 0)) (elim (decLt s (p .spares)) [
-            | yes m ↦ rw (lt-ltb s (p .spares) m, r .covered t s l m)
-            | no m ↦ rw (le-ltb s (p .spares) (omega arith), r .past t s l (omega arith) k)
-          ])
-          | no k ↦ rw (le-ltb s (p .spares) (omega (arith, r .few)), member-past spares₀ s (omega (arith, en .size₀)) (omega arith), member-past spares s (omega (arith, en .size)) (omega arith))
-        ]
+-- Code and model try the same next.
+module _ (p : Problem) (rows live : List ℕ) (r : Rows p rows) (t : ℕ) (l : t < p .trees) where
+  abbrev here : ℕ → Bool
+  here s = inRow rows t s && member live s
 
-    state-entered : (p : Problem) → Rows p rows → t < p .trees → stateOf mates trees₀ spares₀ false ≡ seeFree p t (seeTree t (stateOf mates trees spares false))
-    state-entered p r l =
-        ap (λ (f : ℕ → Bool). record { mates = matesOf mates; treeSeen = bit trees₀; spareSeen = f; met = false })
-        (fun-ext (free-same p r l))
-        ∙ ap (seeFree p t) (state-tree mates trees trees₀ spares t (en .marked))
+  abbrev there : ℕ → Bool
+  there s = p .covers t s && not (not (member live s))
 
-    -- The others are matched.
-    left-taken : (s : ℕ) → s < 256 → inRow rows t s ≡ true → member spares₀ s ≡ false → member taken s ≡ true
-    left-taken s k c f = taken-left (member spares s) (inRow rows t s) (member taken s) c (sym (en .free s k) ∙ f)
+  next-same : (s : ℕ) → (ltb s 256 && here s) ≡ (ltb s (p .spares) && there s)
+  next-same s = elim (decLt s (p .spares)) [
+    | yes k ↦ rw (lt-ltb s (p .spares) k, lt-ltb s 256 (omega (arith, r .few)), r .covered t s l k, Bool·not-not (member live s))
+    | no k ↦ rw (le-ltb s (p .spares) (omega arith)) (elim (decLt s 256) [
+      | yes m ↦ rw (lt-ltb s 256 m, r .past t s l (omega arith) m)
+      | no m ↦ rw (le-ltb s 256 (omega arith))
+    ])
+  ]
 
--- The code's loop: what it keeps.
-pub record Passing (t goal : ℕ) (rows taken mates₀ : List ℕ) (trees₀ : ℕ) (spares₀ mates : List ℕ) (trees : ℕ) (spares : List ℕ) : Type 0 where
+  next-found : pick 256 here < 256 → pick (p .spares) there ≡ pick 256 here
+  next-found k = pick-same 256 (p .spares) here there next-same k
+
+  next-none : pick 256 here ≡ 256 → p .spares ≤ pick (p .spares) there
+  next-none e = elim (pick-is 256 here) [
+    | inl f ↦ absurd (omega (arith, f .0))
+    | inr f ↦ elim (pick-is (p .spares) there) [
+      | inl g ↦
+          let b : pick (p .spares) there < 256 = omega (arith, g .0, r .few) in
+          let both = next-same (pick (p .spares) there) in
+          clash (g .1) (rw (lt-ltb (pick (p .spares) there) (p .spares) (g .0), lt-ltb (pick (p .spares) there) 256 b) at (sym both) ∙ f .1 (pick (p .spares) there) b)
+      | inr g ↦ omega (arith, g .0)
+    ]
+  ]
+
+-- What is found.
+pub next-hit : (rows live : List ℕ) (t s : ℕ) → s ≡ pick 256 (λ j. inRow rows t j && member live j) → (s ≡ 256 → ⊥)
+    → (s < 256) × (inRow rows t s ≡ true) × (member live s ≡ true)
+next-hit rows live t s e d = elim (pick-is 256 (λ j. inRow rows t j && member live j)) [
+  | inl f ↦ rw e (f .0, and-first _ _ (f .1), and-second (inRow rows t (pick 256 (λ j. inRow rows t j && member live j))) _ (f .1))
+  | inr f ↦ absurd (d (e ∙ f .0))
+]
+
+-- The code's loop: what it keeps. The model's has at least as many turns left as spare ranks that were not seen.
+pub record Passing (t goal : ℕ) (rows mates₀ : List ℕ) (trees₀ : ℕ) (live₀ mates : List ℕ) (trees : ℕ) (live : List ℕ) : Type 0 where
   pub mates-length : length mates ≡ 256
-  pub seen-length : length spares ≡ 4
+  pub live-length : length live ≡ 4
   pub below : (n : ℕ) → t < n → Below n mates₀ → Below n mates
-  pub taken-are : Taken mates taken
   pub grown : (u : ℕ) → bit trees₀ u ≡ true → bit trees u ≡ true
-  pub left : (s : ℕ) → s < 256 → inRow rows t s ≡ true → member spares s ≡ false → member taken s ≡ true
   pub equal :
       (p : Problem) (k : ℕ) → Rows p rows → Below (p .trees) mates₀ → t < p .trees
       → p .trees ≤ k + count (p .trees) (bit trees₀)
-      → scan (trySpare p (tryTree p goal k) t) (p .spares) 0 (stateOf mates trees spares false)
-      ≡ scan (trySpare p (tryTree p goal k) t) (p .spares) 0 (stateOf mates₀ trees₀ spares₀ false)
+      → (turns : ℕ) × (p .spares ≤ turns + count (p .spares) (λ s. not (member live s)))
+      × (trySpares p (tryTree p goal k) t turns (stateOf mates trees live false) ≡ trySpares p (tryTree p goal k) t (p .spares) (stateOf mates₀ trees₀ live₀ false))
 
 module _
     (t goal : ℕ)
-    (rows taken mates₀ : List ℕ)
+    (rows mates₀ : List ℕ)
     (trees : ℕ)
-    (spares : List ℕ)
+    (live₀ : List ℕ)
     (trees₀ : ℕ)
-    (spares₀ : List ℕ)
-    (en : Entered t goal rows taken mates₀ trees spares trees₀ spares₀)
+    (en : Entered t goal rows trees trees₀)
   where
-    pub passing-start : length mates₀ ≡ 256 → Passing t goal rows taken mates₀ trees₀ spares₀ mates₀ trees₀ spares₀
-    passing-start l =
+    pub passing-start : length mates₀ ≡ 256 → length live₀ ≡ 4 → Passing t goal rows mates₀ trees₀ live₀ mates₀ trees₀ live₀
+    passing-start l m =
         record {
           mates-length = l;
-          seen-length = en .size₀;
+          live-length = m;
           below = λ n k b. b;
-          taken-are = en .taken-are;
           grown = λ u q. q;
-          left = left-taken t goal rows taken mates₀ trees spares trees₀ spares₀ en;
-          equal = λ p k r b c d. refl;
+          equal = λ p k r b c d. (p .spares, omega arith, refl);
         }
 
     -- The loop's end is the function's.
-    whole : (mates′ : List ℕ) (trees′ : ℕ) (spares′ : List ℕ) (met : Bool) → length mates′ ≡ 256 → length spares′ ≡ 4
+    whole : (mates′ : List ℕ) (trees′ : ℕ) (live′ : List ℕ) (met : Bool) → length mates′ ≡ 256 → length live′ ≡ 4
         → ((p : Problem) (k : ℕ) → Rows p rows → Below (p .trees) mates₀ → t < p .trees
         → p .trees ≤ k + count (p .trees) (bit trees₀)
-        → stateOf mates′ trees′ spares′ met ≡ scan (trySpare p (tryTree p goal k) t) (p .spares) 0 (stateOf mates₀ trees₀ spares₀ false))
-        → TreeTried t goal rows mates₀ trees spares mates′ trees′ spares′ met
-    whole mates′ trees′ spares′ met l m h =
+        → stateOf mates′ trees′ live′ met ≡ trySpares p (tryTree p goal k) t (p .spares) (stateOf mates₀ trees₀ live₀ false))
+        → TreeTried t goal rows mates₀ trees live₀ mates′ trees′ live′ met
+    whole mates′ trees′ live′ met l m h =
         record {
           mates-length = l;
-          seen-length = m;
+          live-length = m;
           equal = λ p k r b c d.
               h p k r b c (rw (added (bit trees) (bit trees₀) t (en .marked)) d)
-              ∙ ap (scan (trySpare p (tryTree p goal k) t) (p .spares) 0) (state-entered t goal rows taken mates₀ trees spares trees₀ spares₀ en p r c)
-              ∙ sym (tree-scans p goal k t (stateOf mates₀ trees spares false) (goal-same p rows r t goal c ∙ en .missed));
+              ∙ ap (trySpares p (tryTree p goal k) t (p .spares)) (state-tree mates₀ trees trees₀ live₀ t (en .marked))
+              ∙ sym (tree-scans p goal k t (stateOf mates₀ trees live₀ false) (goal-same p rows r t goal c ∙ en .missed));
         }
 
     -- The number of tree ranks not yet seen falls once t is marked.
@@ -251,37 +202,18 @@ module _
     module _
         (mates : List ℕ)
         (trees₁ : ℕ)
-        (spares₁ : List ℕ)
-        (h : Passing t goal rows taken mates₀ trees₀ spares₀ mates trees₁ spares₁)
+        (live₁ : List ℕ)
+        (h : Passing t goal rows mates₀ trees₀ live₀ mates trees₁ live₁)
         (s : ℕ)
-        (next : s ≡ first 256 (λ j. inRow rows t j && not (member spares₁ j)))
+        (next : s ≡ pick 256 (λ j. inRow rows t j && member live₁ j))
       where
-        found : First 256 (λ j. inRow rows t j && not (member spares₁ j)) s
-        found = rw next (first-is 256 (λ j. inRow rows t j && not (member spares₁ j)))
-
-        -- The ranks before s do nothing.
-        passed : (p : Problem) → Rows p rows → t < p .trees → (visit : ℕ → Search → Search) (j : ℕ) → j < s → j < p .spares
-            → trySpare p visit t j (stateOf mates trees₁ spares₁ false) ≡ stateOf mates trees₁ spares₁ false
-        passed p r c visit j k l =
-            rank-idle p visit t j (stateOf mates trees₁ spares₁ false)
-            (rw (r .covered t j c l) (still-not-fresh (inRow rows t j) (member spares₁ j) (member spares₁ j) (found .before j k) (λ q. q)))
-
         -- None left.
-        pub passing-end : s ≡ 256 → TreeTried t goal rows mates₀ trees spares mates trees₁ spares₁ false
+        pub passing-end : s ≡ 256 → TreeTried t goal rows mates₀ trees live₀ mates trees₁ live₁ false
         passing-end e =
-            whole mates trees₁ spares₁ false (h .mates-length) (h .seen-length)
+            whole mates trees₁ live₁ false (h .mates-length) (h .live-length)
             (λ p k r b c d.
-            sym (scan-idle (trySpare p (tryTree p goal k) t) (p .spares) (stateOf mates trees₁ spares₁ false) (λ j l. passed p r c (tryTree p goal k) j (omega (arith, r .few)) l))
-            ∙ h .equal p k r b c d)
-
-        -- One found: it is matched.
-        pub found-matched : (s ≡ 256 → ⊥) → 0 < getD mates s 0
-        found-matched some =
-            let l : s < 256 = first-within 256 (λ j. inRow rows t j && not (member spares₁ j)) s next some in
-            let hit : (inRow rows t s && not (member spares₁ s)) ≡ true = found .hit l in
-            let is : member taken s ≡ true = h .left s l (and-first (inRow rows t s) (not (member spares₁ s)) hit) (not-true (member spares₁ s) (and-second (inRow rows t s) (not (member spares₁ s)) hit)) in
-            let some : getD mates s 0 ≡ 0 → ⊥ = eqb-false (getD mates s 0) 0 (not-true (eqb (getD mates s 0) 0) (sym (h .taken-are s l) ∙ is)) in
-            omega arith
+            let (turns, enough, same) = h .equal p k r b c d in
+            sym (spares-none p (tryTree p goal k) t (stateOf mates trees₁ live₁ false) turns (next-none p rows live₁ r t c (sym next ∙ e))) ∙ same)
 
         -- One tried.
         module _
@@ -290,102 +222,103 @@ module _
             (some : s ≡ 256 → ⊥)
             (mates′ : List ℕ)
             (trees′ : ℕ)
-            (spares′ : List ℕ)
+            (live′ : List ℕ)
             (met : Bool)
-            (tried : SpareTried t s goal rows mates trees₁ spares₁ mates′ trees′ spares′ met)
+            (tried : SpareTried t s goal rows mates trees₁ live₁ mates′ trees′ live′ met)
           where
             within : s < 256
-            within = first-within 256 (λ j. inRow rows t j && not (member spares₁ j)) s next some
+            within = next-hit rows live₁ t s next some .0
 
             covers : inRow rows t s ≡ true
-            covers = and-first (inRow rows t s) (not (member spares₁ s)) (found .hit within)
+            covers = next-hit rows live₁ t s next some .1
 
-            unseen : member spares₁ s ≡ false
-            unseen = not-true (member spares₁ s) (and-second (inRow rows t s) (not (member spares₁ s)) (found .hit within))
+            lives : member live₁ s ≡ true
+            lives = next-hit rows live₁ t s next some .2
 
-            reached : (n : ℕ) → t < n → Below n mates₀ → Reached n (seeSpare s (stateOf mates trees₁ spares₁ false)) (stateOf mates′ trees′ spares′ met)
+            reached : (n : ℕ) → t < n → Below n mates₀ → Reached n (seeSpare s (stateOf mates trees₁ live₁ false)) (stateOf mates′ trees′ live′ met)
             reached n k b =
-                spare-reached t s goal rows mates trees₁ spares₁ mates′ trees′ spares′ met rank (h .below 64 rank small) tried n k (h .below n k b)
+                spare-reached t s goal rows mates trees₁ live₁ mates′ trees′ live′ met rank (h .below 64 rank small) tried n k (h .below n k b)
 
-            unseen-before : (j : ℕ) → member spares′ j ≡ false → member spares₁ j ≡ false
-            unseen-before j v =
-                elim (truth (member spares₁ j)) [
-                  | inl q ↦ clash (reached 64 rank small .spares j (put-kept (member spares₁) s j q)) v
-                  | inr q ↦ q
-                ]
-
-            now-seen : member spares′ s ≡ true
-            now-seen = reached 64 rank small .spares s (put-same (member spares₁) s true)
-
-            -- The ranks up to s do nothing any more.
-            idle-now : (p : Problem) → Rows p rows → t < p .trees → (visit : ℕ → Search → Search) (j : ℕ) → j < s + 1 → j < p .spares
-                → trySpare p visit t j (stateOf mates′ trees′ spares′ false) ≡ stateOf mates′ trees′ spares′ false
-            idle-now p r c visit j k l =
-                rank-idle p visit t j (stateOf mates′ trees′ spares′ false)
-                (rw (r .covered t j c l) (elim (ℕ-discrete j s) [
-                  | yes e ↦ rw e (seen-idle (inRow rows t s) (member spares′ s) now-seen)
-                  | no e ↦
-                      still-not-fresh (inRow rows t j) (member spares₁ j) (member spares′ j) (found .before j (omega arith))
-                      (λ q. reached 64 rank small .spares j (put-kept (member spares₁) s j q))
-                ]))
+            -- What is live now was live before, and is not s.
+            still : (j : ℕ) → member live′ j ≡ true → put (member live₁) s false j ≡ true
+            still j v = elim (ℕ-discrete j s) [
+              | yes e ↦ clash (reached 64 rank small .spares j (rw e (put-same (λ j. not (member live₁ j)) s true))) (ap not v)
+              | no e ↦ put-other (member live₁) s false j e ∙ elim (truth (member live₁ j)) [
+                | inl q ↦ q
+                | inr q ↦ clash (reached 64 rank small .spares j (put-kept (λ j. not (member live₁ j)) s j (ap not q))) (ap not v)
+              ]
+            ]
 
             below-spares : (p : Problem) → Rows p rows → t < p .trees → s < p .spares
             below-spares p r c =
                 elim (decLt s (p .spares)) [ yes l ↦ l | no l ↦ clash covers (r .past t s c (omega arith) within) ]
 
             go-on : (p : Problem) (k : ℕ) → Rows p rows → Below (p .trees) mates₀ → t < p .trees → p .trees ≤ k + count (p .trees) (bit trees₀)
-                → scan (trySpare p (tryTree p goal k) t) (p .spares - (s + 1)) (s + 1) (stateOf mates′ trees′ spares′ met)
-                ≡ scan (trySpare p (tryTree p goal k) t) (p .spares) 0 (stateOf mates₀ trees₀ spares₀ false)
-            go-on p k r b c d =
-                let body : (ℕ → Search → Search) = trySpare p (tryTree p goal k) t in
-                let st : Search = stateOf mates trees₁ spares₁ false in
-                let l : s < p .spares = below-spares p r c in
-                let deep : p .trees ≤ k + count (p .trees) (bit trees₁) = omega (arith, count-within (p .trees) (bit trees₀) (bit trees₁) (λ u _. h .grown u)) in
-                let step : body s st ≡ stateOf mates′ trees′ spares′ met =
-                rank-tried p (tryTree p goal k) t s st refl (r .covered t s c l ∙ covers) unseen
-                ∙ sym (tried .equal p k r (h .below (p .trees) c b) c deep) in
-                ap (scan body (p .spares - (s + 1)) (s + 1)) (sym step)
-                ∙ sym (scan-turn body (p .spares) s st l)
-                ∙ sym (scan-from body (p .spares) st s (omega arith) (λ j m. passed p r c (tryTree p goal k) j m (omega arith)))
-                ∙ h .equal p k r b c d
+                → (turns : ℕ) × (p .spares ≤ turns + count (p .spares) (λ s. not (member live′ s)))
+                × (choose met (λ _. stateOf mates′ trees′ live′ met) (λ _. trySpares p (tryTree p goal k) t turns (stateOf mates′ trees′ live′ met))
+                ≡ trySpares p (tryTree p goal k) t (p .spares) (stateOf mates₀ trees₀ live₀ false))
+            go-on p k r b c d = at (h .equal p k r b c d .0) (h .equal p k r b c d .1) (h .equal p k r b c d .2)
+              where
+                l : s < p .spares
+                l = below-spares p r c
+
+                st : Search
+                st = stateOf mates trees₁ live₁ false
+
+                more : suc (count (p .spares) (λ s. not (member live₁ s))) ≤ count (p .spares) (λ s. not (member live′ s))
+                more =
+                    omega (
+                      arith,
+                      rw (ap not lives) at (count-put (p .spares) (λ s. not (member live₁ s)) s true l),
+                      count-within (p .spares) (put (λ s. not (member live₁ s)) s true) (λ s. not (member live′ s)) (λ j _. reached 64 rank small .spares j),
+                    )
+
+                deep : p .trees ≤ k + count (p .trees) (bit trees₁)
+                deep = omega (arith, count-within (p .trees) (bit trees₀) (bit trees₁) (λ u _. h .grown u))
+
+                at : (turns : ℕ) → p .spares ≤ turns + count (p .spares) (λ s. not (member live₁ s))
+                    → trySpares p (tryTree p goal k) t turns st ≡ trySpares p (tryTree p goal k) t (p .spares) (stateOf mates₀ trees₀ live₀ false)
+                    → (turns : ℕ) × (p .spares ≤ turns + count (p .spares) (λ s. not (member live′ s)))
+                    × (choose met (λ _. stateOf mates′ trees′ live′ met) (λ _. trySpares p (tryTree p goal k) t turns (stateOf mates′ trees′ live′ met))
+                    ≡ trySpares p (tryTree p goal k) t (p .spares) (stateOf mates₀ trees₀ live₀ false))
+                at zero enough same = absurd (omega (arith, more, count-below (p .spares) (λ s. not (member live′ s))))
+                at (suc turns) enough same = (
+                  turns,
+                  omega (arith, more),
+                  sym (spares-next p (tryTree p goal k) t st turns s (next-found p rows live₁ r t c (omega (arith, within, next)) ∙ sym next) l
+                      (stateOf mates′ trees′ live′ met) (tried .equal p k r (h .below (p .trees) c b) c deep))
+                      ∙ same,
+                )
 
         -- The goal was met.
-        pub passing-met : t < 64 → Below 64 mates₀ → (s ≡ 256 → ⊥) → (mates′ : List ℕ) (trees′ : ℕ) (spares′ : List ℕ)
-            → SpareTried t s goal rows mates trees₁ spares₁ mates′ trees′ spares′ true
-            → TreeTried t goal rows mates₀ trees spares mates′ trees′ spares′ true
-        passing-met rank small some mates′ trees′ spares′ tried =
-            whole mates′ trees′ spares′ true (tried .mates-length) (tried .seen-length)
-            (λ p k r b c d.
-            sym (scan-met p (tryTree p goal k) t (p .spares - (s + 1)) (s + 1) (stateOf mates′ trees′ spares′ true) refl)
-            ∙ go-on rank small some mates′ trees′ spares′ true tried p k r b c d)
+        pub passing-met : t < 64 → Below 64 mates₀ → (s ≡ 256 → ⊥) → (mates′ : List ℕ) (trees′ : ℕ) (live′ : List ℕ)
+            → SpareTried t s goal rows mates trees₁ live₁ mates′ trees′ live′ true
+            → TreeTried t goal rows mates₀ trees live₀ mates′ trees′ live′ true
+        passing-met rank small some mates′ trees′ live′ tried =
+            whole mates′ trees′ live′ true (tried .mates-length) (tried .live-length)
+            (λ p k r b c d. go-on rank small some mates′ trees′ live′ true tried p k r b c d .2)
 
         -- It was not.
-        pub passing-turn : t < 64 → Below 64 mates₀ → (s ≡ 256 → ⊥) → (mates′ : List ℕ) (trees′ : ℕ) (spares′ : List ℕ)
-            → SpareTried t s goal rows mates trees₁ spares₁ mates′ trees′ spares′ false
-            → Passing t goal rows taken mates₀ trees₀ spares₀ mates′ trees′ spares′
-        passing-turn rank small some mates′ trees′ spares′ tried =
+        pub passing-turn : t < 64 → Below 64 mates₀ → (s ≡ 256 → ⊥) → (mates′ : List ℕ) (trees′ : ℕ) (live′ : List ℕ)
+            → SpareTried t s goal rows mates trees₁ live₁ mates′ trees′ live′ false
+            → Passing t goal rows mates₀ trees₀ live₀ mates′ trees′ live′
+        passing-turn rank small some mates′ trees′ live′ tried =
             record {
               mates-length = tried .mates-length;
-              seen-length = tried .seen-length;
-              below = λ n k b. reached rank small some mates′ trees′ spares′ false tried n k b .below;
-              taken-are = still-taken mates taken mates′ (reached rank small some mates′ trees′ spares′ false tried 64 rank small .free refl) (h .taken-are);
-              left = λ j k c v. h .left j k c (unseen-before rank small some mates′ trees′ spares′ false tried j v);
-              grown = λ u q. reached rank small some mates′ trees′ spares′ false tried 64 rank small .trees u (h .grown u q);
-              equal = λ p k r b c d.
-                  scan-from (trySpare p (tryTree p goal k) t) (p .spares) (stateOf mates′ trees′ spares′ false) (s + 1)
-                  (omega (arith, below-spares rank small some mates′ trees′ spares′ false tried p r c))
-                  (λ j m. idle-now rank small some mates′ trees′ spares′ false tried p r c (tryTree p goal k) j m (omega (arith, below-spares rank small some mates′ trees′ spares′ false tried p r c)))
-                  ∙ go-on rank small some mates′ trees′ spares′ false tried p k r b c d;
+              live-length = tried .live-length;
+              below = λ n k b. reached rank small some mates′ trees′ live′ false tried n k b .below;
+              grown = λ u q. reached rank small some mates′ trees′ live′ false tried 64 rank small .trees u (h .grown u q);
+              equal = go-on rank small some mates′ trees′ live′ false tried;
             }
 
         -- Fewer are left.
-        pub passing-less : t < 64 → Below 64 mates₀ → (s ≡ 256 → ⊥) → (mates′ : List ℕ) (trees′ : ℕ) (spares′ : List ℕ)
-            → SpareTried t s goal rows mates trees₁ spares₁ mates′ trees′ spares′ false
-            → 256 - count 256 (member spares′) < 256 - count 256 (member spares₁)
-        passing-less rank small some mates′ trees′ spares′ tried =
+        pub passing-less : t < 64 → Below 64 mates₀ → (s ≡ 256 → ⊥) → (mates′ : List ℕ) (trees′ : ℕ) (live′ : List ℕ)
+            → SpareTried t s goal rows mates trees₁ live₁ mates′ trees′ live′ false
+            → count 256 (member live′) < count 256 (member live₁)
+        passing-less rank small some mates′ trees′ live′ tried =
+            let lost = count-put 256 (member live₁) s false (within rank small some mates′ trees′ live′ false tried) in
             omega (
               arith,
-              count-below 256 (member spares′),
-              rw (unseen rank small some mates′ trees′ spares′ false tried) at (count-put 256 (member spares₁) s true (within rank small some mates′ trees′ spares′ false tried)),
-              count-within 256 (put (member spares₁) s true) (member spares′) (λ j _. reached rank small some mates′ trees′ spares′ false tried 64 rank small .spares j),
+              rw (lives rank small some mates′ trees′ live′ false tried) at lost,
+              count-within 256 (member live′) (put (member live₁) s false) (λ j _. still rank small some mates′ trees′ live′ false tried j),
             )

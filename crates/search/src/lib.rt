@@ -5,7 +5,6 @@ ghost use mathlib.Core.Path.{_≡_};
 ghost use mathlib.Core.Bool.{_&&_};
 ghost use Prim.Native.Nat.{_<_};
 ghost use lib.Dec.{ltb};
-ghost use lib.ListN.{getD};
 ghost use Rattle.sets.specs.Sets.{inRow};
 ghost use Rattle.search.specs.State.{Ready, TreeTried, SpareTried, Swept};
 
@@ -20,76 +19,59 @@ fn goal_covers(goal: SpareRank, t: TreeRank, rows: &[u64; 256]) -> bool
     false
 }
 
-// Tree rank `t` is matched to the goal, if that covers it. Else it visits the unmatched spare ranks that cover it, all at
-// once, and tries the matched ones, by rank, until one leads to the goal.
+// Tree rank `t` is matched to the goal, if that covers it. Else it tries the live spare ranks that cover it, the dearest
+// first, until one leads to the goal.
 pub fn try_tree(
     t: TreeRank,
     goal: SpareRank,
     rows: &[u64; 256],
-    taken: &[u64; 4],
     mates: &mut [u32; 256],
     tree_seen: &mut u64,
-    spare_seen: &mut [u64; 4],
+    live: &mut [u64; 4],
 ) -> bool
-    requires { ⌜ Ready (t .0) (now taken) (now mates) (now «spare_seen») ⌝ }
-    ensures { λ r. ⌜ TreeTried (t .0) (goal .0) (now (rows .entry)) (now (mates .entry)) (now («tree_seen» .entry)) (now («spare_seen» .entry)) (now (mates .exit)) (now («tree_seen» .exit)) (now («spare_seen» .exit)) r ⌝ }
+    requires { ⌜ Ready (t .0) (now mates) (now live) ⌝ }
+    ensures { λ r. ⌜ TreeTried (t .0) (goal .0) (now (rows .entry)) (now (mates .entry)) (now («tree_seen» .entry)) (now (live .entry)) (now (mates .exit)) (now («tree_seen» .exit)) (now (live .exit)) r ⌝ }
 {
     if goal_covers(goal, t, rows) {
         mates[goal.0 as usize] = t.0 + 1;
         return true;
     }
     *tree_seen = bits::with(*tree_seen, t.0);
-    sets::add_free(rows, t.0, taken, spare_seen);
     loop {
-        let s = sets::next(rows, t.0, spare_seen);
+        let s = sets::next(rows, t.0, live);
         if s == 256 {
             return false;
         }
-        if try_spare(
-            t,
-            SpareRank(s),
-            goal,
-            rows,
-            taken,
-            mates,
-            tree_seen,
-            spare_seen,
-        ) {
+        if try_spare(t, SpareRank(s), goal, rows, mates, tree_seen, live) {
             return true;
         }
     }
 }
 
-// Tree rank `t` tries spare rank `s`, which is matched: its mate may lead on.
+// Tree rank `t` tries spare rank `s`: its mate, if it has one, may lead on.
 fn try_spare(
     t: TreeRank,
     s: SpareRank,
     goal: SpareRank,
     rows: &[u64; 256],
-    taken: &[u64; 4],
     mates: &mut [u32; 256],
     tree_seen: &mut u64,
-    spare_seen: &mut [u64; 4],
+    live: &mut [u64; 4],
 ) -> bool
-    requires { ⌜ (s .0 < 256) × (0 < getD (now mates) (s .0) 0) × Ready (t .0) (now taken) (now mates) (now «spare_seen») ⌝ }
-    ensures { λ r. ⌜ SpareTried (t .0) (s .0) (goal .0) (now (rows .entry)) (now (mates .entry)) (now («tree_seen» .entry)) (now («spare_seen» .entry)) (now (mates .exit)) (now («tree_seen» .exit)) (now («spare_seen» .exit)) r ⌝ }
+    requires { ⌜ (s .0 < 256) × Ready (t .0) (now mates) (now live) ⌝ }
+    ensures { λ r. ⌜ SpareTried (t .0) (s .0) (goal .0) (now (rows .entry)) (now (mates .entry)) (now («tree_seen» .entry)) (now (live .entry)) (now (mates .exit)) (now («tree_seen» .exit)) (now (live .exit)) r ⌝ }
 {
-    sets::insert(spare_seen, s.0);
+    sets::remove(live, s.0);
     let k = s.0 as usize;
     let mate = mates[k];
+    if mate == 0 {
+        return false;
+    }
     if bits::has(*tree_seen, mate - 1) {
         return false;
     }
     mates[k] = t.0 + 1;
-    if try_tree(
-        TreeRank(mate - 1),
-        goal,
-        rows,
-        taken,
-        mates,
-        tree_seen,
-        spare_seen,
-    ) {
+    if try_tree(TreeRank(mate - 1), goal, rows, mates, tree_seen, live) {
         return true;
     }
     mates[k] = mate;
@@ -100,13 +82,12 @@ fn try_spare(
 pub fn explore(
     t: TreeRank,
     rows: &[u64; 256],
-    taken: &[u64; 4],
     mates: &mut [u32; 256],
     tree_seen: &mut u64,
-    spare_seen: &mut [u64; 4],
+    live: &mut [u64; 4],
 )
-    requires { ⌜ Ready (t .0) (now taken) (now mates) (now «spare_seen») ⌝ }
-    ensures { λ r. ⌜ Swept (t .0) (now (rows .entry)) (now (mates .entry)) (now («tree_seen» .entry)) (now («spare_seen» .entry)) (now (mates .exit)) (now («tree_seen» .exit)) (now («spare_seen» .exit)) ⌝ }
+    requires { ⌜ Ready (t .0) (now mates) (now live) ⌝ }
+    ensures { λ r. ⌜ Swept (t .0) (now (rows .entry)) (now (mates .entry)) (now («tree_seen» .entry)) (now (live .entry)) (now (mates .exit)) (now («tree_seen» .exit)) (now (live .exit)) ⌝ }
 {
-    try_tree(t, SpareRank(256), rows, taken, mates, tree_seen, spare_seen);
+    try_tree(t, SpareRank(256), rows, mates, tree_seen, live);
 }

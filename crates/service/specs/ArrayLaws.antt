@@ -15,12 +15,13 @@ use Rattle.graph.specs.CountLaws.{count-below}
 use Rattle.graph.specs.Rank.{sorted, members, treeRanks}
 use Rattle.graph.specs.RankLaws.{tree-lists}
 use Rattle.graph.specs.Paths.{isTree}
-use Rattle.frame.specs.Job.{Edge, Job, link, graphOf, treeOf, costOf}
+use Rattle.frame.specs.Job.{Edge, Job, link, jobNumbers, graphOf, treeOf, costOf}
 use Rattle.frame.specs.Questions.{jobOf, question6, formRefusal}
-use Rattle.frame.specs.Meaning.{EndsHold}
-use Rattle.frame.specs.RoundTrip.{formed, job-of}
+use Rattle.frame.specs.Meaning.{Small, EndsHold}
+use Rattle.frame.specs.RoundTrip.{formed, job-of, job-numbers}
+use Rattle.frame.specs.Accepted.{cost-small}
 use Rattle.tree.specs.Arrays.{arrayGraph, arrayTree, arrayCost, Ranked, Walked}
-use Rattle.ranks.specs.Keys.{treeList}
+use Rattle.ranks.specs.Keys.{treeList, SmallCosts}
 use Rattle.job.specs.Reading.{Loaded, arrays, filled, firsts, seconds, costs, marks, Places}
 use Rattle.job.specs.Held.{zeros, held, length-zeros}
 use Rattle.job.specs.JobRoundTrip.{links-few}
@@ -47,6 +48,7 @@ pub record Stored (j : Job) (as₁ as₂ as₃ as₄ : List ℕ) : Type 0 where
   pub places : length as₃ ≡ 256
   pub nodes-few : j .nodes ≤ 64
   pub edges-few : length (j .links) ≤ 256
+  pub small : Small (jobNumbers j)
   pub ends-hold : EndsHold j
 
 -- A frame of good form, read into arrays of zeros, is so stored.
@@ -69,12 +71,16 @@ stored s z₁ z₂ z₃ z₄ ts₀ as₁ as₂ as₃ as₄ b none empty full =
       places = ap length (ap (λ (l : Loaded). l .cost) full) ∙ length-sets z₃ 0 (costs ls) ∙ ap length (empty .cost) ∙ length-zeros 256;
       nodes-few = omega (arith, ap (λ (j : Job). j .nodes) (job-of s ns b (f .divides)), f .counted .node-limit);
       edges-few = few;
+      small = subst Small (sym (ap jobNumbers (job-of s ns b (f .divides)) ∙ job-numbers ns (f .counted .two) (f .complete))) (f .divides .small);
       ends-hold = subst EndsHold (sym (job-of s ns b (f .divides))) (f .ends);
     }
 
 module _ (j : Job) (as₁ as₂ as₃ as₄ : List ℕ) (h : Stored j as₁ as₂ as₃ as₄) where
   graph-is : (n m : ℕ) → n ≡ j .nodes → m ≡ length (j .links) → arrayGraph n m as₁ as₂ ≡ graphOf j
   graph-is n m p q i = record { nodes = p i; edges = q i; end₁ = h .end₁ i; end₂ = h .end₂ i; live = λ _. true }
+
+  pub costs-small : (m : ℕ) → SmallCosts m as₃
+  costs-small m e l = omega (arith, ap (λ (c : ℕ → ℕ). c e) (h .cost), cost-small j (h .small) e)
 
   -- The tree edges by rank.
   byRank : ℕ → (ℕ → ℕ) → (ℕ → ℕ) → List ℕ

@@ -10,7 +10,7 @@ use Rattle.loops.specs.GatherLaws.{length-tabulate, getD-tabulate}
 use Rattle.frame.specs.Job.{Edge, Job, noEdge, link}
 use Rattle.frame.specs.Questions.{ask, question4, question5, question6}
 use Rattle.frame.specs.Services.{small, counted, listQuestions, listFormRefusal, listRefusal}
-use Rattle.frame.specs.Lists.{listed, list-passed, counted-limits}
+use Rattle.frame.specs.Lists.{listed, list-passed, small-job, counted-limits}
 use Rattle.job.specs.Reading.{rows}
 use Rattle.job.specs.Writing.{jobAt}
 use Rattle.job.specs.WritingLaws.{rows-length}
@@ -68,6 +68,7 @@ module _ (nodes edges : ℕ) (as₁ as₂ as₃ as₄ : List ℕ) (h : ListHeld 
         places = h .places .cost;
         nodes-few = limits .1;
         edges-few = limits .2;
+        small = small-job (jobAt nodes edges as₁ as₂ as₃ as₄) (good .small);
         ends-hold = good .ends;
       }
 

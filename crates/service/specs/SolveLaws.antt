@@ -13,7 +13,7 @@ use Rattle.sets.specs.Sets.{inRow}
 use Rattle.graph.specs.Graph.{Graph, EdgeSet}
 use Rattle.graph.specs.Rank.{sorted, members, spareOf, treeRanks, spareRanks}
 use Rattle.graph.specs.CountLaws.{count-below}
-use Rattle.graph.specs.RankLaws.{tree-lists, spare-lists}
+use Rattle.graph.specs.RankLaws.{tree-lists, spare-lists, tree-falls, spare-rises}
 use Rattle.graph.specs.Paths.{rooted, coversRank}
 use Rattle.optimum.specs.Search.{Problem, matching}
 use Rattle.optimum.specs.Lowest.{Labels, labels}
@@ -28,7 +28,7 @@ use Rattle.ranks.specs.Keys.{spareList}
 use Rattle.search.specs.State.{matesOf, Below, Rows}
 use Rattle.matching.specs.Progress.{costAt, Edges, Holds, Buildable, Built}
 use Rattle.answer.specs.Contents.{costsAt, pairsOf, answerAt, Listed}
-use Rattle.solution.specs.Asked.{covers, Ends}
+use Rattle.solution.specs.Asked.{covers, undercuts, Falling, Rising, Ends}
 use Rattle.service.specs.Accepting.{Held}
 use Rattle.service.specs.Solving.{Costed}
 use Rattle.service.specs.VerdictLaws.{graph-held}
@@ -59,6 +59,13 @@ module _ (j : Job) (as₁ as₂ as₃ as₄ ts mask : List ℕ) (h : Held j as�
   tree-at : (t : ℕ) → t < j .nodes - 1 → getD ts t 0 ≡ getD treeList′ t 0
   tree-at t l = sym (getD-take (j .nodes - 1) ts t 0 l) ∙ ap (λ (r : List ℕ). getD r t 0) (h .ranks)
 
+  tree-price : (t : ℕ) → t < j .nodes - 1 → c (getD treeList′ t 0) ≡ costAt as₃ ts t
+  tree-price t l = ap c (sym (tree-at t l)) ∙ sym (ap (λ (f : ℕ → ℕ). f (getD ts t 0)) (h .cost))
+
+  pub tree-order : Falling (j .nodes - 1) as₃ ts
+  tree-order t t′ l b =
+      omega (arith, tree-price t (omega arith), tree-price t′ b, tree-falls g tr c t t′ l (omega (arith, tree-count)))
+
   byRising : ℕ → (ℕ → ℕ) → (ℕ → ℕ) → List ℕ
   byRising m c k = sorted (λ x y. leb (c x) (c y)) (members m (λ e. not (eqb (k e) 1)))
 
@@ -85,6 +92,13 @@ module _ (j : Job) (as₁ as₂ as₃ as₄ ts mask : List ℕ) (h : Held j as�
     spare-at : (s : ℕ) → s < q → getD ss s 0 ≡ getD spareList′ s 0
     spare-at s l = sym (getD-take q ss s 0 l) ∙ ap (λ (r : List ℕ). getD r s 0) ss-are
 
+    spare-price : (s : ℕ) → s < q → c (getD spareList′ s 0) ≡ costAt as₃ ss s
+    spare-price s l = ap c (sym (spare-at s l)) ∙ sym (ap (λ (f : ℕ → ℕ). f (getD ss s 0)) (h .cost))
+
+    pub spare-order : Rising q as₃ ss
+    spare-order s s′ l b =
+        omega (arith, spare-price s (omega arith), spare-price s′ b, spare-rises g tr c s s′ l (omega (arith, ss-count)))
+
     spare-edge : (s : ℕ) → s < q → getD ss s 0 < length (j .links)
     spare-edge s l = subst (λ (e : ℕ). e < length (j .links)) (sym (spare-at s l)) (spare-lists g tr c .below s (omega (arith, ss-count)))
 
@@ -102,9 +116,14 @@ module _ (j : Job) (as₁ as₂ as₃ as₄ ts mask : List ℕ) (h : Held j as�
         }
 
     -- The rows hold the model's relation.
-    module _ (rows : List ℕ) (filled : (t s : ℕ) → s < 256 → inRow rows t s ≡ (ltb s q && covers as₁ as₂ mask (getD ss s 0) t)) where
-      rows-covered : (t s : ℕ) → s < q → pr .covers t s ≡ inRow rows t s
-      rows-covered t s l = sym (filled t s (omega (arith, few-spares)) ∙ rw (lt-ltb s q l) (cover-at (getD ss s 0) t ∙ ap (λ (e : ℕ). coversRank g (rooted g treeList′) e t) (spare-at s l)))
+    module _ (rows : List ℕ) (filled : (t s : ℕ) → t < j .nodes - 1 → s < 256 → inRow rows t s ≡ (ltb s q && undercuts as₃ ts ss as₁ as₂ mask t s)) where
+      rows-covered : (t s : ℕ) → t < j .nodes - 1 → s < q → pr .covers t s ≡ inRow rows t s
+      rows-covered t s m l =
+          sym
+          (filled t s m (omega (arith, few-spares))
+          ∙ rw (lt-ltb s q l)
+          (ap₂ _&&_ (cover-at (getD ss s 0) t ∙ ap (λ (e : ℕ). coversRank g (rooted g treeList′) e t) (spare-at s l))
+          (ap₂ ltb (sym (spare-price s l)) (sym (tree-price t m)))))
 
       pub holds : Holds pr q as₃ ts ss rows
       holds =
@@ -113,11 +132,11 @@ module _ (j : Job) (as₁ as₂ as₃ as₄ ts mask : List ℕ) (h : Held j as�
             rows-are =
                 record {
                   few = omega (arith, few-spares, ss-count);
-                  covered = λ t s lt ls. rows-covered t s (omega (arith, ss-count));
-                  past = λ t s lt l b. filled t s b ∙ rw (le-ltb s q (omega (arith, ss-count)));
+                  covered = λ t s lt ls. rows-covered t s (omega (arith, tree-count)) (omega (arith, ss-count));
+                  past = λ t s lt l b. filled t s (omega (arith, tree-count)) b ∙ rw (le-ltb s q (omega (arith, ss-count)));
                 };
-            tree-cost = λ t l. ap c (sym (tree-at t (omega (arith, tree-count)))) ∙ sym (ap (λ (f : ℕ → ℕ). f (getD ts t 0)) (h .cost));
-            spare-cost = λ s l. ap c (sym (spare-at s (omega (arith, ss-count)))) ∙ sym (ap (λ (f : ℕ → ℕ). f (getD ss s 0)) (h .cost));
+            tree-cost = λ t l. tree-price t (omega (arith, tree-count));
+            spare-cost = λ s l. spare-price s (omega (arith, ss-count));
           }
 
       -- What the matching, the labels and the partners then are.

@@ -12,20 +12,24 @@ use Rattle.frame.specs.Meaning.{Accepted}
 use Rattle.answer.specs.Contents.{answerAt}
 use Rattle.job.specs.Held.{zeros}
 use Rattle.search.specs.State.{matesOf, Below, Taken}
+use Rattle.solution.specs.Asked.{Rising}
 use Rattle.matching.specs.Progress.{Edges, Holds}
 use Rattle.service.specs.Accepting.{Held}
 
--- What placing new costs needs: a matching and the set of its spare ranks, ranks that name edges, and an array of zeros.
-pub record Costable (trees spares : ℕ) (ts ss taken mates costs : List ℕ) : Type 0 where
+-- What placing new costs needs: a matching and the set of its spare ranks, ranks that name edges, and arrays of zeros.
+pub record Costable (trees spares : ℕ) (cost ts ss taken mates label costs : List ℕ) : Type 0 where
   pub few-trees : trees ≤ 64
   pub few-spares : spares ≤ 256
   pub tree-edges : Edges trees ts
   pub spare-edges : Edges spares ss
+  pub rising : Rising spares cost ss
   pub tree-places : length ts ≡ 256
   pub spare-places : length ss ≡ 256
   pub mates-length : length mates ≡ 256
   pub below : Below trees mates
+  pub taken-length : length taken ≡ 4
   pub taken-are : Taken mates taken
+  pub unlabelled : label ≡ zeros 256
   pub empty : costs ≡ zeros 256
 
 -- What it leaves: the model's new costs by edge, and the mates as they were.

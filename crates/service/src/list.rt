@@ -208,5 +208,14 @@ pub fn answer_links(
         &mut ts,
         &mut mask,
     );
-    answer_held(header, &end1, &end2, &cost, &mark, &ts, &mask, area)
+    answer_held(
+        header,
+        &mut end1,
+        &mut end2,
+        &cost,
+        &mut mark,
+        &ts,
+        &mask,
+        area,
+    )
 }

@@ -10,13 +10,14 @@ use crate::solve::solve;
 use job::read::Header;
 use job::write::Reply;
 
-// Writes the answer to a job in arrays into the area, or refuses it and writes nothing.
+// Writes the answer to a job in arrays into the area, or refuses it and writes nothing. The arrays of ends and marks serve
+// as room.
 pub fn answer_held(
     header: Header,
-    end1: &[u32; 256],
-    end2: &[u32; 256],
+    end1: &mut [u32; 256],
+    end2: &mut [u32; 256],
     cost: &[u32; 256],
-    mark: &[u32; 256],
+    mark: &mut [u32; 256],
     ts: &[u32; 256],
     mask: &[u64; 64],
     area: &mut [u8],
@@ -83,5 +84,14 @@ pub fn answer(frame: &[u8], area: &mut [u8]) -> Reply
         &mut ts,
         &mut mask,
     );
-    answer_held(header, &end1, &end2, &cost, &mark, &ts, &mask, area)
+    answer_held(
+        header,
+        &mut end1,
+        &mut end2,
+        &cost,
+        &mut mark,
+        &ts,
+        &mask,
+        area,
+    )
 }

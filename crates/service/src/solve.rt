@@ -13,13 +13,13 @@ fn new_costs(
     rows: &[u64; 256],
     taken: &[u64; 4],
     mates: &mut [u32; 256],
+    spare_label: &mut [u32; 256],
     costs: &mut [u32; 256],
 )
-    requires { ⌜ Costable trees spares (now ts) (now ss) (now taken) (now mates) (now costs) ⌝ }
+    requires { ⌜ Costable trees spares (now cost) (now ts) (now ss) (now taken) (now mates) (now «spare_label») (now costs) ⌝ }
     ensures { λ r. ⌜ Costed trees spares (now (cost .entry)) (now (ts .entry)) (now (ss .entry)) (now (rows .entry)) (now (mates .entry)) (now (mates .exit)) (now (costs .exit)) ⌝ }
 {
     let mut tree_label = [0u32; 64];
-    let mut spare_label = [0u32; 256];
     labels::label(
         trees,
         spares as u32,
@@ -30,10 +30,10 @@ fn new_costs(
         taken,
         mates,
         &mut tree_label,
-        &mut spare_label,
+        spare_label,
     );
     solution::place(ts, trees as usize, &tree_label, costs);
-    solution::place(ss, spares, &spare_label, costs);
+    solution::place(ss, spares, spare_label, costs);
 }
 
 // The step count, and how many pairs are listed.
@@ -42,14 +42,15 @@ pub struct Solved {
     pub count: usize,
 }
 
-// The answer to an accepted job in arrays: its new costs and its pairs, rising by tree link.
+// The answer to an accepted job in arrays: its new costs and its pairs, rising by tree link. Once the rows are filled, the
+// arrays of ends and marks serve as room: for the mates, for the labels of the spare ranks and for the mate of each link.
 pub fn solve(
     nodes: u32,
     edges: usize,
-    end1: &[u32; 256],
-    end2: &[u32; 256],
+    end1: &mut [u32; 256],
+    end2: &mut [u32; 256],
     cost: &[u32; 256],
-    mark: &[u32; 256],
+    mark: &mut [u32; 256],
     ts: &[u32; 256],
     mask: &[u64; 64],
     costs: &mut [u32; 256],
@@ -63,8 +64,9 @@ pub fn solve(
     let mut ss = [0u32; 256];
     let spares = ranks::spare_ranks(edges, cost, mark, &mut ss);
     let mut rows = [0u64; 256];
-    solution::fill_rows(spares, &ss, end1, end2, mask, &mut rows);
-    let mut mates = [0u32; 256];
+    solution::fill_rows(trees, spares, cost, ts, &ss, end1, end2, mask, &mut rows);
+    let mates = end1;
+    *mates = [0u32; 256];
     let mut taken = [0u64; 4];
     matching::build(
         trees,
@@ -73,9 +75,11 @@ pub fn solve(
         ts,
         &ss,
         &rows,
-        &mut mates,
+        mates,
         &mut taken,
     );
+    let spare_label = end2;
+    *spare_label = [0u32; 256];
     new_costs(
         trees,
         spares,
@@ -84,13 +88,15 @@ pub fn solve(
         &ss,
         &rows,
         &taken,
-        &mut mates,
+        mates,
+        spare_label,
         costs,
     );
-    let mut mate = [0u32; 256];
-    solution::partners(ts, &ss, spares, &mates, &mut mate);
+    let mate = mark;
+    *mate = [0u32; 256];
+    solution::partners(ts, &ss, spares, mates, mate);
     let steps = solution::steps(edges, cost, costs);
-    let count = answer::write::list_pairs(edges, &mate, pair_tree, pair_spare);
+    let count = answer::write::list_pairs(edges, mate, pair_tree, pair_spare);
     Solved {
         steps: steps as u32,
         count: count,

@@ -5,9 +5,9 @@ ghost use mathlib.Core.List.{[], _∷_};
 ghost use Prim.Native.Nat.{ℕ, _<_};
 ghost use lib.Dec.{eqb};
 ghost use lib.ListN.{length};
-ghost use Rattle.loops.specs.Loop.{first};
+ghost use Rattle.loops.specs.Loop.{first, behind, pick};
 ghost use Rattle.bits.specs.Bit.{bit};
-ghost use Rattle.sets.specs.Sets.{member, inRow};
+ghost use Rattle.sets.specs.Sets.{member, inRow, inSome};
 
 // Is `i` a member?
 pub fn contains(ws: &[u64; 4], i: u32) -> bool
@@ -25,6 +25,16 @@ pub fn insert(ws: &mut [u64; 4], i: u32)
 {
     let k = (i / 64) as usize;
     ws[k] = bits::with(ws[k], i % 64);
+}
+
+// Takes `i` out.
+pub fn remove(ws: &mut [u64; 4], i: u32)
+    requires { ⌜ (i < 256) × (length (now ws) ≡ 4) ⌝ }
+    ensures members { λ r. ⌜ ((j : ℕ) → member (now (ws .exit)) j ≡ (member (now (ws .entry)) j && not (eqb i j))) ⌝ }
+    ensures length { λ r. ⌜ length (now (ws .exit)) ≡ 4 ⌝ }
+{
+    let word = (i / 64) as usize;
+    ws[word] = bits::without(ws[word], i % 64);
 }
 
 // Puts `s` into row `t`.
@@ -45,28 +55,34 @@ pub fn contains_in_row(rows: &[u64; 256], t: u32, s: u32) -> bool
     bits::has(rows[(4 * t + s / 64) as usize], s % 64)
 }
 
-// A word of `seen` with the members of a row's word that are not in `taken`.
-fn with_free(seen: u64, row: u64, taken: u64) -> u64
-    ensures { λ r. ⌜ ((j : ℕ) → bit r j ≡ (bit seen j || (bit row j && not (bit taken j)))) ⌝ }
-{
-    bits::either(seen, bits::less(row, taken))
-}
-
-// Puts the members of row `t` that are not in `taken` into `seen`.
-pub fn add_free(rows: &[u64; 256], t: u32, taken: &[u64; 4], seen: &mut [u64; 4])
-    requires { ⌜ (t < 64) × (length (now seen) ≡ 4) ⌝ }
-    ensures members { λ r. ⌜ ((s : ℕ) → s < 256 → member (now (seen .exit)) s ≡ (member (now (seen .entry)) s || (inRow (now (rows .entry)) t s && not (member (now (taken .entry)) s)))) ⌝ }
-    ensures length { λ r. ⌜ length (now (seen .exit)) ≡ 4 ⌝ }
+// Puts row `t` into a set.
+fn add_row(rows: &[u64; 256], t: u32, ws: &mut [u64; 4])
+    requires { ⌜ (t < 64) × (length (now ws) ≡ 4) ⌝ }
+    ensures members { λ r. ⌜ ((s : ℕ) → s < 256 → member (now (ws .exit)) s ≡ (member (now (ws .entry)) s || inRow (now (rows .entry)) t s)) ⌝ }
+    ensures length { λ r. ⌜ length (now (ws .exit)) ≡ 4 ⌝ }
 {
     let k = (4 * t) as usize;
-    seen[0] = with_free(seen[0], rows[k], taken[0]);
-    seen[1] = with_free(seen[1], rows[k + 1], taken[1]);
-    seen[2] = with_free(seen[2], rows[k + 2], taken[2]);
-    seen[3] = with_free(seen[3], rows[k + 3], taken[3]);
+    ws[0] = bits::either(ws[0], rows[k]);
+    ws[1] = bits::either(ws[1], rows[k + 1]);
+    ws[2] = bits::either(ws[2], rows[k + 2]);
+    ws[3] = bits::either(ws[3], rows[k + 3]);
+}
+
+// Puts the rows of a word's members into a set.
+fn add_rows(rows: &[u64; 256], trees: u64, ws: &mut [u64; 4])
+    requires { ⌜ length (now ws) ≡ 4 ⌝ }
+    ensures members { λ r. ⌜ ((s : ℕ) → s < 256 → member (now (ws .exit)) s ≡ (member (now (ws .entry)) s || inSome (now (rows .entry)) (bit trees) s)) ⌝ }
+    ensures length { λ r. ⌜ length (now (ws .exit)) ≡ 4 ⌝ }
+{
+    let mut left = trees;
+    while left != 0 {
+        add_row(rows, bits::lowest(left), ws);
+        left = bits::without_lowest(left);
+    }
 }
 
 // The lowest member of the set that four words hold; 256 if there is none.
-pub fn lowest_of(a: u64, b: u64, c: u64, d: u64) -> u32
+fn lowest_of(a: u64, b: u64, c: u64, d: u64) -> u32
     ensures { λ r. ⌜ r ≡ first 256 (member (a ∷ b ∷ c ∷ d ∷ [])) ⌝ }
 {
     if a != 0 {
@@ -84,54 +100,94 @@ pub fn lowest_of(a: u64, b: u64, c: u64, d: u64) -> u32
     256
 }
 
-// The lowest member of row `t` that is not in `seen`; 256 if there is none.
-pub fn next(rows: &[u64; 256], t: u32, seen: &[u64; 4]) -> u32
+// The highest member of the first word that has one, of the set that four words hold; 256 if there is none.
+fn pick_of(a: u64, b: u64, c: u64, d: u64) -> u32
+    ensures { λ r. ⌜ r ≡ pick 256 (member (a ∷ b ∷ c ∷ d ∷ [])) ⌝ }
+{
+    if a != 0 {
+        return bits::highest(a);
+    }
+    if b != 0 {
+        return 64 + bits::highest(b);
+    }
+    if c != 0 {
+        return 128 + bits::highest(c);
+    }
+    if d != 0 {
+        return 192 + bits::highest(d);
+    }
+    256
+}
+
+// A member of row `t` that is in `live`, the highest of the first word that has one; 256 if there is none.
+pub fn next(rows: &[u64; 256], t: u32, live: &[u64; 4]) -> u32
     requires { ⌜ t < 64 ⌝ }
-    ensures { λ r. ⌜ r ≡ first 256 (λ s. inRow (now (rows .entry)) t s && not (member (now (seen .entry)) s)) ⌝ }
+    ensures { λ r. ⌜ r ≡ pick 256 (λ s. inRow (now (rows .entry)) t s && member (now (live .entry)) s) ⌝ }
 {
     let k = (4 * t) as usize;
-    lowest_of(
-        bits::less(rows[k], seen[0]),
-        bits::less(rows[k + 1], seen[1]),
-        bits::less(rows[k + 2], seen[2]),
-        bits::less(rows[k + 3], seen[3]),
+    pick_of(
+        bits::both(rows[k], live[0]),
+        bits::both(rows[k + 1], live[1]),
+        bits::both(rows[k + 2], live[2]),
+        bits::both(rows[k + 3], live[3]),
     )
 }
 
-// The members of a word of `seen` that are neither in `dead` nor in `taken`.
-fn fresh(seen: u64, dead: u64, taken: u64) -> u64
-    ensures { λ r. ⌜ ((j : ℕ) → bit r j ≡ (bit seen j && not (bit dead j) && not (bit taken j))) ⌝ }
+// The number behind the highest member of the set that four words hold; 0 if there is none.
+fn top_of(a: u64, b: u64, c: u64, d: u64) -> u32
+    ensures { λ r. ⌜ r ≡ behind 256 (member (a ∷ b ∷ c ∷ d ∷ [])) ⌝ }
 {
-    bits::less(bits::less(seen, dead), taken)
+    if d != 0 {
+        return 193 + bits::highest(d);
+    }
+    if c != 0 {
+        return 129 + bits::highest(c);
+    }
+    if b != 0 {
+        return 65 + bits::highest(b);
+    }
+    if a != 0 {
+        return 1 + bits::highest(a);
+    }
+    0
 }
 
-// The lowest member of `seen` that is neither in `dead` nor in `taken`; 256 if there is none.
-pub fn lowest_fresh(seen: &[u64; 4], dead: &[u64; 4], taken: &[u64; 4]) -> u32
-    ensures { λ r. ⌜ r ≡ first 256 (λ s. member (now (seen .entry)) s && not (member (now (dead .entry)) s) && not (member (now (taken .entry)) s)) ⌝ }
+// The number behind the highest member; 0 if there is none.
+pub fn top(ws: &[u64; 4]) -> u32
+    ensures { λ r. ⌜ r ≡ behind 256 (member (now (ws .entry))) ⌝ }
+{
+    top_of(ws[0], ws[1], ws[2], ws[3])
+}
+
+// The numbers below 64 that are not in a word.
+fn others(w: u64) -> u64
+    ensures { λ r. ⌜ ((j : ℕ) → j < 64 → bit r j ≡ not (bit w j)) ⌝ }
+{
+    !w
+}
+
+// The lowest number that is not in `taken`; 256 if there is none.
+pub fn lowest_free(taken: &[u64; 4]) -> u32
+    ensures { λ r. ⌜ r ≡ first 256 (λ s. not (member (now (taken .entry)) s)) ⌝ }
 {
     lowest_of(
-        fresh(seen[0], dead[0], taken[0]),
-        fresh(seen[1], dead[1], taken[1]),
-        fresh(seen[2], dead[2], taken[2]),
-        fresh(seen[3], dead[3], taken[3]),
+        others(taken[0]),
+        others(taken[1]),
+        others(taken[2]),
+        others(taken[3]),
     )
 }
 
-// The numbers below 64 that are in neither word.
-fn neither(dead: u64, taken: u64) -> u64
-    ensures { λ r. ⌜ ((j : ℕ) → j < 64 → bit r j ≡ (not (bit dead j) && not (bit taken j))) ⌝ }
+// The lowest number that is in the row of some member of `trees`, and not in `taken`; 256 if there is none.
+pub fn lowest_covering(rows: &[u64; 256], trees: u64, taken: &[u64; 4]) -> u32
+    ensures { λ r. ⌜ r ≡ first 256 (λ s. inSome (now (rows .entry)) (bit trees) s && not (member (now (taken .entry)) s)) ⌝ }
 {
-    bits::less(!dead, taken)
-}
-
-// The lowest number that is neither in `dead` nor in `taken`; 256 if there is none.
-pub fn lowest_open(dead: &[u64; 4], taken: &[u64; 4]) -> u32
-    ensures { λ r. ⌜ r ≡ first 256 (λ s. not (member (now (dead .entry)) s) && not (member (now (taken .entry)) s)) ⌝ }
-{
+    let mut ws = [0u64; 4];
+    add_rows(rows, trees, &mut ws);
     lowest_of(
-        neither(dead[0], taken[0]),
-        neither(dead[1], taken[1]),
-        neither(dead[2], taken[2]),
-        neither(dead[3], taken[3]),
+        bits::less(ws[0], taken[0]),
+        bits::less(ws[1], taken[1]),
+        bits::less(ws[2], taken[2]),
+        bits::less(ws[3], taken[3]),
     )
 }

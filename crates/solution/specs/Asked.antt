@@ -1,9 +1,11 @@
--- What the functions between edges and ranks ask of their arrays, and when an edge covers a rank by its ends' masks.
+-- What the functions between edges and ranks ask of their arrays, when an edge covers a rank by its ends' masks, and when a
+-- spare rank undercuts a tree rank.
 -- Definitions only. Assumes nothing.
 use Prim.Native.Nat.{ℕ, _-_, _≤_, _<_}
 use mathlib.Core.Path.{_≡_}
-use mathlib.Core.Bool.{Bool, xor}
+use mathlib.Core.Bool.{Bool, xor, _&&_}
 use mathlib.Core.List.{List}
+use lib.Dec.{ltb}
 use lib.ListN.{length, getD}
 use Rattle.bits.specs.Bit.{bit}
 
@@ -11,13 +13,28 @@ use Rattle.bits.specs.Bit.{bit}
 abbrev pub covers : List ℕ → List ℕ → List ℕ → ℕ → ℕ → Bool
 covers end₁ end₂ mask e t = xor (bit (getD mask (getD end₁ e 0) 0) t) (bit (getD mask (getD end₂ e 0) 0) t)
 
+-- The cost of a rank: ranks lead to edges, and edges to costs.
+abbrev pub costAt : List ℕ → List ℕ → ℕ → ℕ
+costAt cost ranks k = getD cost (getD ranks k 0) 0
+
+-- Spare rank s covers tree rank t and costs less.
+abbrev pub undercuts : List ℕ → List ℕ → List ℕ → List ℕ → List ℕ → List ℕ → ℕ → ℕ → Bool
+undercuts cost ts ss end₁ end₂ mask t s = covers end₁ end₂ mask (getD ss s 0) t && ltb (costAt cost ss s) (costAt cost ts t)
+
 -- The first `count` places of an array of 256 hold edges.
 pub record Ranks (count : ℕ) (ranks : List ℕ) : Type 0 where
   pub places : length ranks ≡ 256
   pub most : count ≤ 256
   pub edges : (k : ℕ) → k < count → getD ranks k 0 < 256
 
--- The ends of those edges are nodes.
+-- The costs of the first `count` ranks fall, or rise.
+abbrev pub Falling : ℕ → List ℕ → List ℕ → Type 0
+Falling count cost ranks = (k k′ : ℕ) → k ≤ k′ → k′ < count → costAt cost ranks k′ ≤ costAt cost ranks k
+
+abbrev pub Rising : ℕ → List ℕ → List ℕ → Type 0
+Rising count cost ranks = (k k′ : ℕ) → k ≤ k′ → k′ < count → costAt cost ranks k ≤ costAt cost ranks k′
+
+-- The ends of the edges of the first `count` ranks are nodes.
 pub record Ends (count : ℕ) (ranks end₁ end₂ : List ℕ) : Type 0 where
   pub first : (k : ℕ) → k < count → getD end₁ (getD ranks k 0) 0 < 64
   pub second : (k : ℕ) → k < count → getD end₂ (getD ranks k 0) 0 < 64

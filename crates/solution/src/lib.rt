@@ -1,4 +1,4 @@
-// From edges to ranks and back: the rows of the ranks that each spare edge covers; and new costs, mates and steps from what
+// From edges to ranks and back: the rows of the dearer ranks that each spare edge covers; and new costs, mates and steps from what
 // the search found by rank (specs/Asked.antt).
 ghost use mathlib.Core.Path.{_≡_};
 ghost use mathlib.Core.Bool.{_&&_, _||_};
@@ -9,7 +9,7 @@ ghost use Rattle.loops.specs.Loop.{sum};
 ghost use Rattle.bits.specs.Bit.{bit};
 ghost use Rattle.sets.specs.Sets.{inRow};
 ghost use Rattle.optimum.specs.Solve.{place, join, partners, gap};
-ghost use Rattle.solution.specs.Asked.{covers, Ranks, Ends, Mated};
+ghost use Rattle.solution.specs.Asked.{covers, costAt, undercuts, Ranks, Falling, Rising, Ends, Mated};
 use ids::Edge;
 use ids::SpareRank;
 
@@ -39,28 +39,56 @@ fn fill(spare: SpareRank, trees: u64, rows: &mut [u64; 256])
     }
 }
 
-// Fills empty rows: each spare rank goes into the rows of the tree ranks that its edge covers.
+// How many of the first `limit` tree ranks cost more than x. Costs fall by rank: these are the lowest ranks.
+fn dearer(limit: u32, x: u32, cost: &[u32; 256], ts: &[u32; 256]) -> u32
+    requires { ⌜ Ranks limit (now ts) × Falling limit (now cost) (now ts) ⌝ }
+    ensures few { λ r. ⌜ r ≤ limit ⌝ }
+    ensures ranks { λ r. ⌜ ((t : ℕ) → t < limit → ltb x (costAt (now (cost .entry)) (now (ts .entry)) t) ≡ ltb t r) ⌝ }
+{
+    let mut p = limit;
+    while p > 0 {
+        let e = ts[(p - 1) as usize] as usize;
+        if x < cost[e] {
+            return p;
+        }
+        p -= 1;
+    }
+    p
+}
+
+// Fills empty rows: each spare rank goes into the rows of the tree ranks that its edge covers and that cost more. Spare
+// ranks go by rising cost: what no longer costs more never does again.
 pub fn fill_rows(
+    trees: u32,
     q: usize,
+    cost: &[u32; 256],
+    ts: &[u32; 256],
     ss: &[u32; 256],
     end1: &[u32; 256],
     end2: &[u32; 256],
     mask: &[u64; 64],
     rows: &mut [u64; 256],
 )
-    requires ranks { ⌜ Ranks q (now ss) ⌝ }
+    requires trees { ⌜ (trees < 64) × Ranks trees (now ts) × Falling trees (now cost) (now ts) ⌝ }
+    requires spares { ⌜ Ranks q (now ss) × Rising q (now cost) (now ss) ⌝ }
     requires ends { ⌜ Ends q (now ss) (now end1) (now end2) ⌝ }
     requires empty { ⌜ now rows ≡ replicate 256 0 ⌝ }
-    ensures members { λ r. ⌜ ((t s : ℕ) → s < 256 → inRow (now (rows .exit)) t s
-        ≡ (ltb s q && covers (now (end1 .entry)) (now (end2 .entry)) (now (mask .entry)) (getD (now (ss .entry)) s 0) t)) ⌝ }
+    ensures members { λ r. ⌜ ((t s : ℕ) → t < trees → s < 256 → inRow (now (rows .exit)) t s
+        ≡ (ltb s q && undercuts (now (cost .entry)) (now (ts .entry)) (now (ss .entry)) (now (end1 .entry)) (now (end2 .entry)) (now (mask .entry)) t s)) ⌝ }
     ensures length { λ r. ⌜ length (now (rows .exit)) ≡ 256 ⌝ }
 {
+    let mut limit = trees;
     let mut s: usize = 0;
     while s < q {
         let e = ss[s];
-        let trees = covered(Edge(e), end1, end2, mask);
+        limit = dearer(limit, cost[e as usize], cost, ts);
+        if limit == 0 {
+            return;
+        }
+        let over = covered(Edge(e), end1, end2, mask);
+        let above = bits::both(over, bits::below(limit));
         let spare = s as u32;
-        fill(SpareRank(spare), trees, rows);
+        fill(SpareRank(spare), above, rows);
         s += 1;
     }
 }

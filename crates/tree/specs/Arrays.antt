@@ -2,11 +2,11 @@
 -- Definitions only. Assumes nothing.
 use Prim.Native.Nat.{ℕ, _≤_, _<_}
 use mathlib.Core.Path.{_≡_}
-use mathlib.Core.Bool.{Bool, true, false, cond, not, xor, _||_}
+use mathlib.Core.Bool.{Bool, true, false, cond, not, xor, _&&_, _||_}
 use mathlib.Core.List.{List}
-use lib.Dec.{leb, eqb}
+use lib.Dec.{leb, ltb, eqb}
 use lib.ListN.{length, getD, take}
-use Rattle.loops.specs.Loop.{allBelow}
+use Rattle.loops.specs.Loop.{scan, allBelow}
 use Rattle.bits.specs.Bit.{bit}
 use Rattle.graph.specs.Graph.{Graph, EdgeSet}
 use Rattle.graph.specs.Paths.{Rooted, attach, rooted}
@@ -40,6 +40,18 @@ held front mask = record { found = front .found; reached = bit (front .reached);
 abbrev pub tried : ℕ → ℕ → ℕ → Rooted → Rooted
 tried u v k st = cond (st .reached u) (cond (st .reached v) st (attach u v k st)) (cond (st .reached v) (attach v u k st) st)
 
+-- The tree edge of rank k, between the nodes that the arrays name.
+abbrev pub triedRank : List ℕ → List ℕ → List ℕ → ℕ → Rooted → Rooted
+triedRank ranks as₁ as₂ k st = tried (getD as₁ (getD ranks k 0) 0) (getD as₂ (getD ranks k 0) 0) k st
+
+-- A turn at a number of which p holds; no other turn does anything.
+abbrev pub only : {A : Type 0} → (ℕ → Bool) → (ℕ → A → A) → ℕ → A → A
+only p body k st = cond (p k) (body k st) st
+
+-- The tree edges whose ranks are in a word, tried by rank.
+abbrev pub triedWord : ℕ → List ℕ → List ℕ → List ℕ → Rooted → Rooted
+triedWord word ranks as₁ as₂ st = scan (only (bit word) (triedRank ranks as₁ as₂)) 64 0 st
+
 -- Node, node and rank below 64, 64 masks, and a number of found nodes that can grow.
 pub record Room (found u v k : ℕ) (mask : List ℕ) : Type 0 where
   pub few : found < 65536
@@ -56,6 +68,19 @@ pub record Ranked (nodes count : ℕ) (ranks as₁ as₂ : List ℕ) : Type 0 wh
   pub edge : (k : ℕ) → k < count → getD ranks k 0 < 256
   pub first : (k : ℕ) → k < count → getD as₁ (getD ranks k 0) 0 < nodes
   pub second : (k : ℕ) → k < count → getD as₂ (getD ranks k 0) 0 < nodes
+
+-- Words that hold for each node the ranks of the tree edges at it, of the first `count` ranks.
+pub record Adjacency (count : ℕ) (ranks as₁ as₂ adj : List ℕ) : Type 0 where
+  pub places : length adj ≡ 64
+  pub own :
+      (v k : ℕ)
+      → bit (getD adj v 0) k ≡ (ltb k count && (eqb (getD as₁ (getD ranks k 0) 0) v || eqb (getD as₂ (getD ranks k 0) 0) v))
+
+-- The ranks in a word name edges of the arrays, each between two nodes.
+pub record Named (word : ℕ) (ranks as₁ as₂ : List ℕ) : Type 0 where
+  pub edge : (k : ℕ) → bit word k ≡ true → getD ranks k 0 < 256
+  pub first : (k : ℕ) → bit word k ≡ true → getD as₁ (getD ranks k 0) 0 < 64
+  pub second : (k : ℕ) → bit word k ≡ true → getD as₂ (getD ranks k 0) 0 < 64
 
 -- What the search from node 0 gives: the number of nodes found, and the tree paths. How many links the arrays hold is
 -- all one to it.

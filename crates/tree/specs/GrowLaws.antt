@@ -55,11 +55,11 @@ module _ (u v k : ℕ) (st : Rooted) where
   tried-neither p q = rw (p, q)
 
   -- What a tried edge keeps.
-  pub tried-keeps : (P : Rooted → Type 0) → P st → ((a b : ℕ) → P (attach a b k st)) → P (tried u v k st)
-  tried-keeps P still more =
+  pub tried-keeps : (P : Rooted → Type 0) → P st → P (attach u v k st) → P (attach v u k st) → P (tried u v k st)
+  tried-keeps P still forth back =
       cond-both P (st .reached u) _ _
-      (λ _. cond-both P (st .reached v) _ _ (λ _. still) (λ _. more u v))
-      (λ _. cond-both P (st .reached v) _ _ (λ _. more v u) (λ _. still))
+      (λ _. cond-both P (st .reached v) _ _ (λ _. still) (λ _. forth))
+      (λ _. cond-both P (st .reached v) _ _ (λ _. back) (λ _. still))
 
   pub tried-few : tried u v k st .found ≤ st .found + 1
-  tried-few = tried-keeps (λ (r : Rooted). r .found ≤ st .found + 1) (omega arith) (λ a b. omega arith)
+  tried-few = tried-keeps (λ (r : Rooted). r .found ≤ st .found + 1) (omega arith) (omega arith) (omega arith)

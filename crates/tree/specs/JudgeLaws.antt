@@ -1,6 +1,6 @@
--- Laws of the judge, in the shape of the code: one covered rank taken out of a word, a test of all the ranks of a word, one
--- link, and what the test of all links comes to in the model. Assumes nothing.
-use Prim.Native.Nat.{ℕ, _^_, _≤_, _<_, _-_}
+-- Laws of the judge, in the shape of the code: a test of all the ranks of a word, one link, and what the test of all links
+-- comes to in the model. Assumes nothing.
+use Prim.Native.Nat.{ℕ, _^_, _≤_, _<_}
 use native.Mathlib.Decide.{decLt, ℕ-discrete}
 use native.Mathlib.Omega.{arith}
 use mathlib.Core.Path.{_≡_, refl, sym, ap, _∙_}
@@ -11,16 +11,16 @@ use lib.Dec.{eqb}
 use lib.ListN.{getD, take}
 use lib.Seq.{length-take-le, getD-take}
 use borrow.Author.Tests.{eq-eqb, ne-eqb}
-use Rattle.loops.specs.Loop.{put, allBelow, first}
-use Rattle.loops.specs.PutLaws.{put-same, put-other}
-use Rattle.loops.specs.FirstLaws.{first-is}
-use Rattle.loops.specs.TestLaws.{truth, clash, and-first, all-at, all-of, all-miss, all-same}
+use Rattle.loops.specs.Loop.{allBelow, first}
+use Rattle.loops.specs.PutLaws.{put-other}
+use Rattle.loops.specs.TestLaws.{truth, clash, all-at, all-of, all-miss, all-same}
 use Rattle.bits.specs.Bit.{bit}
-use Rattle.bits.specs.BitLaws.{bit-zero, first-below}
-use Rattle.bits.specs.ChangeLaws.{or-test, removed}
+use Rattle.bits.specs.BitLaws.{bit-zero}
+use Rattle.bits.specs.ChangeLaws.{or-test}
 use Rattle.graph.specs.Paths.{rooted, coversRank, judge}
 use Rattle.tree.specs.Arrays.{arrayGraph, arrayTree, arrayCost, paths, across, spareHolds, linkHolds, Ranked, Spare, Judged}
-use Rattle.tree.specs.SweepLaws.{path-below}
+use Rattle.tree.specs.WordLaws.{lowest-below, lowest-set, taken-out}
+use Rattle.tree.specs.RootLaws.{path-below}
 
 -- ---- the ranks of a word
 
@@ -29,48 +29,18 @@ abbrev pub wordHolds : (ℕ → Bool) → ℕ → Bool
 wordHolds ok w = allBelow 64 λ k. not (bit w k) || ok k
 
 module _ (w : ℕ) (some : 0 < w) (fits : w < 2 ^ 64) (k : ℕ) (low : k ≡ first 64 (bit w)) where
-  pub lowest-below : k < 64
-  lowest-below = omega (arith, first-below 64 w some fits)
-
-  pub lowest-set : bit w k ≡ true
-  lowest-set = rw low (first-is 64 (bit w) .hit (first-below 64 w some fits))
-
   pub word-miss : (ok : ℕ → Bool) → ok k ≡ false → wordHolds ok w ≡ false
-  word-miss ok no-k = all-miss 64 (λ j. not (bit w j) || ok j) k lowest-below (rw (lowest-set, no-k))
+  word-miss ok no-k =
+      all-miss 64 (λ j. not (bit w j) || ok j) k (lowest-below w some fits k low) (rw (lowest-set w some fits k low, no-k))
 
-  -- The word without its lowest rank.
-  module _ (w′ : ℕ) (rest : (j : ℕ) → bit w′ j ≡ (bit w j && not (eqb j (first 64 (bit w))))) where
-    pub word-part : (j : ℕ) → bit w′ j ≡ true → bit w j ≡ true
-    word-part j h = and-first _ _ (sym (rest j) ∙ h)
-
-    taken-out : bit w′ ≡ put (bit w) (first 64 (bit w)) false
-    taken-out = removed (bit w) (bit w′) (first 64 (bit w)) rest
-
-    none-lower : (j : ℕ) → j ≤ first 64 (bit w) → bit w′ j ≡ false
-    none-lower j l =
-        ap (λ f. f j) taken-out
-        ∙ elim (ℕ-discrete j (first 64 (bit w))) [
-          | yes e ↦ rw e (put-same (bit w) (first 64 (bit w)) false)
-          | no d ↦ put-other (bit w) (first 64 (bit w)) false j d ∙ first-is 64 (bit w) .before j (omega arith)
-        ]
-
-    -- Its lowest rank is higher.
-    pub word-less : 64 - first 64 (bit w′) < 64 - first 64 (bit w)
-    word-less =
-        let below : first 64 (bit w) < 64 = first-below 64 w some fits in
-        elim (decLt (first 64 (bit w)) (first 64 (bit w′))) [
-          | yes l ↦ omega arith
-          | no l ↦ clash (first-is 64 (bit w′) .hit (omega arith)) (none-lower (first 64 (bit w′)) (omega arith))
-        ]
-
-    pub word-turn : (ok : ℕ → Bool) → ok k ≡ true → wordHolds ok w′ ≡ wordHolds ok w
-    word-turn ok yes-k =
-        all-same 64 _ _ (λ j l. elim (ℕ-discrete j k) [
-          | yes e ↦ rw (e, yes-k) (or-test (not (bit w′ k)) true ∙ sym (or-test (not (bit w k)) true))
-          | no d ↦
-              ap (λ b. not b || ok j)
-              (ap (λ f. f j) taken-out ∙ put-other (bit w) (first 64 (bit w)) false j (λ e. d (e ∙ sym low)))
-        ])
+  pub word-turn :
+      (w′ : ℕ) → ((j : ℕ) → bit w′ j ≡ (bit w j && not (eqb j (first 64 (bit w)))))
+      → (ok : ℕ → Bool) → ok k ≡ true → wordHolds ok w′ ≡ wordHolds ok w
+  word-turn w′ rest ok yes-k =
+      all-same 64 _ _ (λ j l. elim (ℕ-discrete j k) [
+        | yes e ↦ rw (e, yes-k) (or-test (not (bit w′ k)) true ∙ sym (or-test (not (bit w k)) true))
+        | no d ↦ ap (λ b. not b || ok j) (ap (λ f. f j) (taken-out w some fits k low w′ rest) ∙ put-other (bit w) k false j d)
+      ])
 
 pub word-end : (ok : ℕ → Bool) (w : ℕ) → w ≡ 0 → wordHolds ok w ≡ true
 word-end ok w e = all-of 64 _ (λ j l. rw (e, bit-zero j))

@@ -1,5 +1,8 @@
 -- Tree paths and the judge over arrays.
 pub mod Arrays
 pub mod GrowLaws
-pub mod SweepLaws
+pub mod WordLaws
+pub mod AdjacencyLaws
+pub mod ExpandLaws
+pub mod RootLaws
 pub mod JudgeLaws

@@ -4,8 +4,8 @@ ghost use mathlib.Core.Bool.{true};
 ghost use Prim.Native.Nat.{ℕ, _<_, _≤_};
 ghost use lib.ListN.{length, take};
 ghost use Rattle.bits.specs.Bit.{bit};
-ghost use Rattle.graph.specs.Paths.{attach, sweep, rooted, isTree, judge as judged};
-ghost use Rattle.tree.specs.Arrays.{arrayGraph, arrayTree, arrayCost, paths, across, held, tried, Room, Ranked, Walked, spareHolds, Spare, Judged};
+ghost use Rattle.graph.specs.Paths.{attach, rooted, isTree, judge as judged};
+ghost use Rattle.tree.specs.Arrays.{arrayGraph, arrayTree, arrayCost, paths, across, held, tried, triedWord, Room, Ranked, Adjacency, Named, Walked, spareHolds, Spare, Judged};
 use ids::Edge;
 use ids::Node;
 use ids::TreeRank;
@@ -50,29 +50,53 @@ fn grow(front: Front, u: Node, v: Node, k: TreeRank, mask: &mut [u64; 64]) -> Fr
     front
 }
 
-// Tries every tree edge once, by rank.
-fn sweep(
-    front: Front,
+// Puts the rank of every tree edge into the words of its two ends; the words hold no rank at entry.
+fn adjacency(
     ranks: &[u32; 256],
     count: usize,
     end1: &[u32; 256],
     end2: &[u32; 256],
-    mask: &mut [u64; 64],
-) -> Front
+    adj: &mut [u64; 64],
+)
     requires { ⌜ Ranked 64 count (now ranks) (now end1) (now end2) ⌝ }
-    requires { ⌜ (front .found ≤ 8192) × (length (now mask) ≡ 64) ⌝ }
-    ensures state { λ r. ⌜ held r (now (mask .exit)) ≡ sweep (arrayGraph 64 256 (now (end1 .entry)) (now (end2 .entry))) (take count (now (ranks .entry))) (held front (now (mask .entry))) ⌝ }
-    ensures places { λ r. ⌜ length (now (mask .exit)) ≡ 64 ⌝ }
+    requires { ⌜ Adjacency 0 (now ranks) (now end1) (now end2) (now adj) ⌝ }
+    ensures { λ r. ⌜ Adjacency count (now (ranks .entry)) (now (end1 .entry)) (now (end2 .entry)) (now (adj .exit)) ⌝ }
 {
-    let mut next = front;
     let mut k: usize = 0;
     while k < count {
         let e = ranks[k] as usize;
+        let u = end1[e] as usize;
+        let v = end2[e] as usize;
+        let rank = k as u32;
+        adj[u] = bits::with(adj[u], rank);
+        adj[v] = bits::with(adj[v], rank);
+        k += 1;
+    }
+}
+
+// Tries the tree edges whose ranks are in a word, by rank.
+fn expand(
+    front: Front,
+    word: u64,
+    ranks: &[u32; 256],
+    end1: &[u32; 256],
+    end2: &[u32; 256],
+    mask: &mut [u64; 64],
+) -> Front
+    requires { ⌜ Named word (now ranks) (now end1) (now end2) ⌝ }
+    requires { ⌜ (front .found ≤ 8192) × (length (now mask) ≡ 64) ⌝ }
+    ensures state { λ r. ⌜ held r (now (mask .exit)) ≡ triedWord word (now (ranks .entry)) (now (end1 .entry)) (now (end2 .entry)) (held front (now (mask .entry))) ⌝ }
+    ensures places { λ r. ⌜ length (now (mask .exit)) ≡ 64 ⌝ }
+{
+    let mut next = front;
+    let mut untried = word;
+    while untried != 0 {
+        let k = bits::lowest(untried);
+        let e = ranks[k as usize] as usize;
         let u = end1[e];
         let v = end2[e];
-        let rank = k as u32;
-        next = grow(next, Node(u), Node(v), TreeRank(rank), mask);
-        k += 1;
+        next = grow(next, Node(u), Node(v), TreeRank(k), mask);
+        untried = bits::without_lowest(untried);
     }
     next
 }
@@ -90,17 +114,22 @@ pub fn root_paths(
     ensures { λ r. ⌜ Walked nodes count (now (ranks .entry)) (now (end1 .entry)) (now (end2 .entry)) r (now (mask .exit)) ⌝ }
 {
     *mask = [0u64; 64];
+    let mut adj = [0u64; 64];
+    adjacency(ranks, count, end1, end2, &mut adj);
     let mut front = Front {
         found: 1,
         reached: 1,
     };
+    let mut done = 0u64;
     let mut rounds = nodes;
     while 0 < rounds {
-        let next = sweep(front, ranks, count, end1, end2, mask);
-        if next.found == front.found {
-            return next.found;
+        let waiting = bits::less(front.reached, done);
+        if waiting == 0 {
+            return front.found;
         }
-        front = next;
+        let v = bits::lowest(waiting);
+        front = expand(front, adj[v as usize], ranks, end1, end2, mask);
+        done = bits::with(done, v);
         rounds -= 1;
     }
     front.found

@@ -178,7 +178,7 @@ fn chains() {
     row(4, 6, &a, &b, &low, &m, 3, &order);
 }
 
-// The first tree edges tried lead out of nothing found yet, so that several sweeps are needed.
+// The tree edges of the lowest ranks are the farthest from node 0.
 fn far_ends() {
     let a = [4, 3, 2, 1, 4, 2];
     let b = [3, 2, 1, 0, 0, 0];

@@ -19,7 +19,7 @@ returns : tie.Need-returns
 returns c =
     let e = c .before .before .before in
     let a = e .args in
-    mate-none (a .s .0) (a .rows .now) (a .mates .now) (a .tree-seen .now) (a .spare-seen .now) (e .pre .1) (e .pre .2) (c .if1 .taken)
+    mate-none (a .s .0) (a .rows .now) (a .mates .now) (a .tree-seen .now) (a .live .now) (e .pre .1) (e .pre .2) (c .if1 .taken)
 
 sub-has : tie.Need-sub-has
 sub-has c = search needs
@@ -31,23 +31,23 @@ returns-2 : tie.Need-returns-2
 returns-2 c =
     let e = c .before .before .before .before .before .before in
     let a = e .args in
-    mate-seen (a .s .0) (a .rows .now) (a .mates .now) (a .tree-seen .now) (a .spare-seen .now) (c .before .before .before .if1 .left) (e .pre .1) (e .pre .2) (sym (c .before .has .ensures) ∙ c .if2 .taken)
+    mate-seen (a .s .0) (a .rows .now) (a .mates .now) (a .tree-seen .now) (a .live .now) (c .before .before .before .if1 .left) (e .pre .1) (e .pre .2) (sym (c .before .has .ensures) ∙ c .if2 .taken)
 
-sub-t12 : tie.Need-sub-t12
-sub-t12 c = search needs
+sub-t11 : tie.Need-sub-t11
+sub-t11 c = search needs
 
 explore-requires : tie.Need-explore-requires
 explore-requires c κs =
     let e = c .before .before .before .before .before .before .before .before .before in
     let a = e .args in
-    record { rank = omega (arith, e .pre .3 (a .s .0), c .before .before .before .before .before .before .if1 .left); mates-length = e .pre .1; seen-length = e .pre .2; below = e .pre .3; taken-are = e .pre .4 }
+    record { rank = omega (arith, e .pre .3 (a .s .0), c .before .before .before .before .before .before .if1 .left); mates-length = e .pre .1; live-length = e .pre .2; below = e .pre .3 }
 
 returns-3 : tie.Need-returns-3
 returns-3 c =
     let e = c .before .before .before .before .before .before .before .before .before .before in
     let a = e .args in
     let f = c .explore in
-    mate-explored (a .s .0) (a .rows .now) (a .mates .now) (a .tree-seen .now) (a .spare-seen .now) (c .before .before .before .before .before .before .before .if1 .left) (sym (c .before .before .before .before .before .has .ensures) ∙ c .before .before .before .before .if2 .left) (f .last .1 .1 .1 .0) (f .last .1 .1 .1 .1 .0) (f .last .1 .1 .1 .1 .1 .0) (f .ensures)
+    mate-explored (a .s .0) (a .rows .now) (a .mates .now) (a .tree-seen .now) (a .live .now) (c .before .before .before .before .before .before .before .if1 .left) (sym (c .before .before .before .before .before .has .ensures) ∙ c .before .before .before .before .if2 .left) (f .last .1 .1 .0) (f .last .1 .1 .1 .0) (f .last .1 .1 .1 .1 .0) (f .ensures)
 
 pub explore-mate-spec : {M : Type 1} → statement M
 explore-mate-spec =
@@ -60,6 +60,6 @@ explore-mate-spec =
     sub-has
     has-requires
     returns-2
-    sub-t12
+    sub-t11
     explore-requires
     returns-3)

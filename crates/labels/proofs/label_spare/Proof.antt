@@ -1,5 +1,6 @@
 -- `labels::label_spare` meets its contract. Assumes nothing.
 use borrow.Author.Needs.{needs}
+use borrow.Author.Tests.{not-true, not-false}
 use mathlib.Core.Path.{sym, _∙_}
 use Rattle.labels.specs.Store.{store}
 use Rattle.labels.specs.LabelSteps.{spare-done, spare-labelled}
@@ -13,10 +14,10 @@ returns : tie.Need-returns
 returns c =
     let e = c .before .before .before in
     let a = e .args in
-    spare-done (a .s .0) (a .x) (a .rows .now) (a .taken .now) (store (a .mates .now) (a .tree-done .now) (a .spare-done .now) (a .tree-label .now) (a .spare-label .now)) (e .pre .1) (sym (c .before .contains .ensures) ∙ c .if1 .taken)
+    spare-done (a .s .0) (a .x) (a .rows .now) (store (a .mates .now) (a .tree-done .now) (a .live .now) (a .tree-label .now) (a .spare-label .now)) (e .pre .1) (sym (c .before .contains .ensures) ∙ not-true (c .before .contains .result) (c .if1 .taken))
 
-insert-requires : tie.Need-insert-requires
-insert-requires c κs = search needs
+remove-requires : tie.Need-remove-requires
+remove-requires c κs = search needs
 
 explore-mate-requires : tie.Need-explore-mate-requires
 explore-mate-requires c κs = search needs
@@ -29,8 +30,8 @@ returns-2 c =
     let e = c .before .before .before .before .before .before .before .before .before .before .before .before .before .before .before .before in
     let a = e .args in
     let f = c .before .before .before .before .before .explore-mate in
-    spare-labelled (a .s .0) (a .x) (a .rows .now) (a .taken .now) (store (a .mates .now) (a .tree-done .now) (a .spare-done .now) (a .tree-label .now) (a .spare-label .now)) (e .pre .1) (sym (c .before .before .before .before .before .before .before .before .before .before .before .before .before .before .contains .ensures) ∙ c .before .before .before .before .before .before .before .before .before .before .before .before .before .if1 .left) (c .before .before .before .before .before .before .before .before .before .insert .last .0) (c .before .before .before .before .before .before .before .before .before .insert .ensures .0)
-    (store (f .last .1 .1 .1 .0) (f .last .1 .1 .1 .1 .0) (f .last .1 .1 .1 .1 .1 .0) (c .relabel .last .1 .1 .1 .1 .1 .0) (c .relabel .last .1 .1 .1 .1 .1 .1 .0)) (f .ensures) (c .relabel .ensures)
+    spare-labelled (a .s .0) (a .x) (a .rows .now) (store (a .mates .now) (a .tree-done .now) (a .live .now) (a .tree-label .now) (a .spare-label .now)) (e .pre .1) (sym (c .before .before .before .before .before .before .before .before .before .before .before .before .before .before .contains .ensures) ∙ not-false (c .before .before .before .before .before .before .before .before .before .before .before .before .before .before .contains .result) (c .before .before .before .before .before .before .before .before .before .before .before .before .before .if1 .left)) (c .before .before .before .before .before .before .before .before .before .remove .last .0) (c .before .before .before .before .before .before .before .before .before .remove .ensures .0)
+    (store (f .last .1 .1 .0) (f .last .1 .1 .1 .0) (f .last .1 .1 .1 .1 .0) (c .relabel .last .1 .1 .1 .1 .1 .0) (c .relabel .last .1 .1 .1 .1 .1 .1 .0)) (f .ensures) (c .relabel .ensures)
 
 pub label-spare-spec : {M : Type 1} → statement M
 label-spare-spec =
@@ -38,7 +39,7 @@ label-spare-spec =
     (tie.spec
     contains-requires
     returns
-    insert-requires
+    remove-requires
     explore-mate-requires
     relabel-requires
     returns-2)

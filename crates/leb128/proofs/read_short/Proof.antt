@@ -1,29 +1,12 @@
 -- `leb128::read_short` meets its contract: each return is a case of two steps of `decode`. Assumes nothing.
-use Prim.Native.Nat.{ℕ, _+_, _≤_, _<_}
+use Prim.Native.Nat.{_+_, _≤_, _<_}
 use native.Mathlib.Omega.{arith}
-use mathlib.Core.Path.{_≡_, sym}
-use mathlib.Core.List.{List}
+use mathlib.Core.Path.{sym}
 use lib.ListN.{length, getD}
-use Rattle.leb128.specs.Number.{readAt}
-use Rattle.leb128.specs.declared.Number.the-variants.{Value, Refused}
-use Rattle.leb128.proofs.Steps.{read-none, read-end, read-last, read-refused, read-long, read-value}
+use Rattle.leb128.proofs.Steps.{read-end, read-last, cut-off, too-long, not-shortest, two-bytes}
 use borrow.Author.Needs.{needs}
 use Rattle.leb128.proofs.read_short.Statement.{statement}
 use Rattle.leb128.proofs.read_short.Tie as tie
-
--- the first byte says that another follows
-module _ (s : List ℕ) (at : ℕ) (within : at < length s) (more : 128 ≤ getD s at 0) where
-  cut-off : length s ≤ at + 1 → readAt 2 s at ≡ Refused
-  cut-off l = read-refused 2 s at (λ e. omega (arith, e)) within more (read-end 1 s (at + 1) l)
-
-  module _ (inside : at + 1 < length s) where
-    too-long : 128 ≤ getD s (at + 1) 0 → readAt 2 s at ≡ Refused
-    too-long m =
-        read-refused 2 s at (λ e. omega (arith, e)) within more
-        (read-refused 1 s (at + 1) (λ e. omega (arith, e)) inside m (read-none 0 s (at + 1 + 1) (omega arith)))
-
-    second : getD s (at + 1) 0 < 128 → readAt 1 s (at + 1) ≡ Value (getD s (at + 1) 0) (at + 1 + 1)
-    second l = read-last 1 s (at + 1) (λ e. omega (arith, e)) inside l
 
 returns : tie.Need-returns
 returns c =
@@ -75,7 +58,7 @@ returns-5 c =
     let a = f .before .before .before .args in
     let within : a .at < length (a .bytes .now) = omega (arith, f .before .before .if1 .left) in
     let more : 128 ≤ getD (a .bytes .now) (a .at) 0 = omega (arith, f .if2 .left) in
-    sym (read-long 2 (a .bytes .now) (a .at) (λ e. omega (arith, e)) within more _ _ (second (a .bytes .now) (a .at) within more (omega (arith, g .if3 .left)) (omega (arith, h .if4 .left))) (c .if5 .taken))
+    sym (not-shortest (a .bytes .now) (a .at) within more (omega (arith, g .if3 .left)) (omega (arith, h .if4 .left)) (c .if5 .taken))
 
 mul-t13 : tie.Need-mul-t13
 mul-t13 c = search needs
@@ -94,7 +77,7 @@ returns-6 c =
     let a = f .before .before .before .args in
     let within : a .at < length (a .bytes .now) = omega (arith, f .before .before .if1 .left) in
     let more : 128 ≤ getD (a .bytes .now) (a .at) 0 = omega (arith, f .if2 .left) in
-    sym (read-value 2 (a .bytes .now) (a .at) (λ e. omega (arith, e)) within more _ _ (second (a .bytes .now) (a .at) within more (omega (arith, g .if3 .left)) (omega (arith, h .if4 .left))) (c .if5 .left))
+    sym (two-bytes (a .bytes .now) (a .at) within more (omega (arith, g .if3 .left)) (omega (arith, h .if4 .left)) (c .if5 .left))
 
 pub read-short-spec : {M : Type 1} → statement M
 read-short-spec =

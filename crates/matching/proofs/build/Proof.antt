@@ -6,11 +6,11 @@ use Rattle.matching.proofs.build.Statement.{statement}
 use Rattle.matching.proofs.build.Tie as tie
 
 abbrev Inv-loop : tie.InvT-loop
-Inv-loop trees spares cost ts ss rows mates₀ taken₀ tree-dead₀ spare-dead₀ t₀ mates taken tree-dead spare-dead t =
-    Building trees spares cost ts ss rows mates taken tree-dead spare-dead t
+Inv-loop trees spares cost ts ss rows mates₀ taken₀ tree-dead₀ live₀ t₀ mates taken tree-dead live t =
+    Building trees spares cost ts ss rows mates taken tree-dead live t
 
 abbrev μ-loop : tie.MeasureT-loop
-μ-loop trees spares cost ts ss rows mates₀ taken₀ tree-dead₀ spare-dead₀ t₀ mates taken tree-dead spare-dead t =
+μ-loop trees spares cost ts ss rows mates₀ taken₀ tree-dead₀ live₀ t₀ mates taken tree-dead live t =
     trees - t
 
 loop-holds : tie.Need-loop-holds Inv-loop μ-loop
@@ -23,7 +23,7 @@ augment-requires c κs =
     let e = c .before .before .before .before .before .before in
     let a = e .args in
     let l = c .before .before .before .before .before .loop in
-    building-ready (a .trees) (a .spares) (a .cost .now) (a .ts .now) (a .ss .now) (a .rows .now) (l .mates) (l .taken) (l .tree-dead) (l .spare-dead) (l .t) (l .inv) (a .mates .now) (a .taken .now) (e .pre) (c .before .before .before .before .loop-test .taken)
+    building-ready (a .trees) (a .spares) (a .cost .now) (a .ts .now) (a .ss .now) (a .rows .now) (l .mates) (l .taken) (l .tree-dead) (l .live) (l .t) (l .inv) (a .mates .now) (a .taken .now) (e .pre) (c .before .before .before .before .loop-test .taken)
 
 add-t : tie.Need-add-t Inv-loop μ-loop
 add-t c = omega (arith, c .before .before .before .before .before .before .before .pre .few-trees)
@@ -36,13 +36,13 @@ loop-again c =
     let a = c .before .before .before .before .before .before .before .args in
     let l = c .before .before .before .before .before .before .loop in
     let d = c .augment .last .1 .1 .1 .1 .1 .1 in
-    building-turn (a .trees) (a .spares) (a .cost .now) (a .ts .now) (a .ss .now) (a .rows .now) (l .mates) (l .taken) (l .tree-dead) (l .spare-dead) (l .t) (l .inv) (d .0) (d .1 .0) (d .1 .1 .0) (d .1 .1 .1 .0) (c .before .before .before .before .before .loop-test .taken) (c .augment .ensures)
+    building-turn (a .trees) (a .spares) (a .cost .now) (a .ts .now) (a .ss .now) (a .rows .now) (l .mates) (l .taken) (l .tree-dead) (l .live) (l .t) (l .inv) (d .0) (d .1 .0) (d .1 .1 .0) (d .1 .1 .1 .0) (c .before .before .before .before .before .loop-test .taken) (c .augment .ensures)
 
 returns : tie.Need-returns Inv-loop μ-loop
 returns c =
     let a = c .before .before .args in
     let l = c .before .loop in
-    building-end (a .trees) (a .spares) (a .cost .now) (a .ts .now) (a .ss .now) (a .rows .now) (l .mates) (l .taken) (l .tree-dead) (l .spare-dead) (l .t) (l .inv) (c .loop-test .left)
+    building-end (a .trees) (a .spares) (a .cost .now) (a .ts .now) (a .ss .now) (a .rows .now) (l .mates) (l .taken) (l .tree-dead) (l .live) (l .t) (l .inv) (c .loop-test .left)
 
 pub build-spec : {M : Type 1} → statement M
 build-spec =

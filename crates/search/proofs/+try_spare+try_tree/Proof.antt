@@ -1,17 +1,17 @@
 -- The proof of the cycle of calls {try_spare, try_tree}. The measures are twice the number of tree ranks not yet seen, for `try_tree` once its own rank
--- is marked, and one more. The loop's invariant: the model's scan from the first rank, run on the present state, gives what it gives on the first.
+-- is marked, and one more. The loop's invariant: the model's loop, run on the present state, gives what it gives on the first.
 -- Assumes nothing.
 use Prim.Native.Nat.{ℕ, _+_, _-_, _*_, _<_}
 use native.Mathlib.Omega.{arith}
 use mathlib.Core.Path.{sym, _∙_}
-use mathlib.Core.Bool.{true, not, _&&_}
+use mathlib.Core.Bool.{true}
 use lib.ListN.{getD, length-set}
 use Rattle.loops.specs.Loop.{put}
 use Rattle.bits.specs.Bit.{bit}
-use Rattle.sets.specs.Sets.{member, inRow}
+use Rattle.sets.specs.Sets.{member}
 use Rattle.graph.specs.Graph.{count}
-use Rattle.search.specs.SpareSteps.{below-set, taken-set, tree-falls, spare-seen, spare-led, spare-failed}
-use Rattle.search.specs.TreeSteps.{goal-within, tree-hit, Entered, Passing, passing-start, passing-end, passing-met, passing-turn, passing-less, found-matched, spare-falls, first-within}
+use Rattle.search.specs.SpareSteps.{below-set, tree-falls, spare-free, spare-seen, spare-led, spare-failed}
+use Rattle.search.specs.TreeSteps.{goal-within, tree-hit, Entered, Passing, passing-start, passing-end, passing-met, passing-turn, passing-less, spare-falls, next-hit}
 use borrow.Fn.Kinds.{In}
 use borrow.Fn.PlainCycle.{Measures, is, falls, and}
 use Rattle.search.proofs.try_spare.Reads as try-spare
@@ -23,45 +23,44 @@ use Rattle.search.proofs.+try_spare+try_tree.Lts-try_tree as try-tree-l
 use Rattle.bits.proofs.has.Reads as has-reads
 use Rattle.bits.proofs.with.Reads as with-reads
 use Rattle.search.proofs.goal_covers.Reads as goal-covers-reads
-use Rattle.sets.proofs.add_free.Reads as add-free-reads
-use Rattle.sets.proofs.insert.Reads as insert-reads
 use Rattle.sets.proofs.next.Reads as next-reads
+use Rattle.sets.proofs.remove.Reads as remove-reads
 use Rattle.search.proofs.+try_spare+try_tree.{statement}
 use Rattle.search.proofs.+try_spare+try_tree.Tie.{close}
 
-abbrev μ-try-spare : Measures 5 try-spare-kinds.ps ℕ
-μ-try-spare κs a = 2 * (64 - count 64 (bit (a .1 .1 .1 .1 .1 .1 .0 .now)))
+abbrev μ-try-spare : Measures 4 try-spare-kinds.ps ℕ
+μ-try-spare κs a = 2 * (64 - count 64 (bit (a .1 .1 .1 .1 .1 .0 .now)))
 
-abbrev μ-try-tree : Measures 5 try-tree-kinds.ps ℕ
-μ-try-tree κs a = 2 * (64 - count 64 (put (bit (a .1 .1 .1 .1 .1 .0 .now)) (a .0 .0) true)) + 1
+abbrev μ-try-tree : Measures 4 try-tree-kinds.ps ℕ
+μ-try-tree κs a = 2 * (64 - count 64 (put (bit (a .1 .1 .1 .1 .0 .now)) (a .0 .0) true)) + 1
 
-abbrev try-spare-at : ℕ → In 5 try-spare-kinds.ps
-try-spare-at t = and 5 try-spare-kinds.ps (is 5 try-spare-kinds.ps μ-try-spare t) try-spare.Pre
+abbrev try-spare-at : ℕ → In 4 try-spare-kinds.ps
+try-spare-at t = and 4 try-spare-kinds.ps (is 4 try-spare-kinds.ps μ-try-spare t) try-spare.Pre
 
-abbrev try-spare-below : ℕ → In 5 try-spare-kinds.ps
+abbrev try-spare-below : ℕ → In 4 try-spare-kinds.ps
 try-spare-below t =
-    and 5 try-spare-kinds.ps (falls 5 try-spare-kinds.ps _<_ μ-try-spare t) try-spare.Pre
+    and 4 try-spare-kinds.ps (falls 4 try-spare-kinds.ps _<_ μ-try-spare t) try-spare.Pre
 
-abbrev try-tree-at : ℕ → In 5 try-tree-kinds.ps
-try-tree-at t = and 5 try-tree-kinds.ps (is 5 try-tree-kinds.ps μ-try-tree t) try-tree.Pre
+abbrev try-tree-at : ℕ → In 4 try-tree-kinds.ps
+try-tree-at t = and 4 try-tree-kinds.ps (is 4 try-tree-kinds.ps μ-try-tree t) try-tree.Pre
 
-abbrev try-tree-below : ℕ → In 5 try-tree-kinds.ps
+abbrev try-tree-below : ℕ → In 4 try-tree-kinds.ps
 try-tree-below t =
-    and 5 try-tree-kinds.ps (falls 5 try-tree-kinds.ps _<_ μ-try-tree t) try-tree.Pre
+    and 4 try-tree-kinds.ps (falls 4 try-tree-kinds.ps _<_ μ-try-tree t) try-tree.Pre
 
-try-spare-insert-requires : (t : ℕ) → try-spare-lts.Need-insert-requires (
-  insert-reads.Asked,
-  insert-reads.Learnt,
+try-spare-remove-requires : (t : ℕ) → try-spare-lts.Need-remove-requires (
+  remove-reads.Asked,
+  remove-reads.Learnt,
   has-reads.Asked,
   has-reads.Learnt,
   try-tree-below t,
   try-tree.Post,
 ) (try-spare-at t) try-spare.Post
-try-spare-insert-requires t c κs = (c .before .pre .1 .0, c .before .pre .1 .2 .seen-length)
+try-spare-remove-requires t c κs = (c .before .pre .1 .0, c .before .pre .1 .1 .live-length)
 
 try-spare-cast-k : (t : ℕ) → try-spare-lts.Need-cast-k (
-  insert-reads.Asked,
-  insert-reads.Learnt,
+  remove-reads.Asked,
+  remove-reads.Learnt,
   has-reads.Asked,
   has-reads.Learnt,
   try-tree-below t,
@@ -70,8 +69,8 @@ try-spare-cast-k : (t : ℕ) → try-spare-lts.Need-cast-k (
 try-spare-cast-k t c = omega arith
 
 try-spare-mul-mate : (t : ℕ) → try-spare-lts.Need-mul-mate (
-  insert-reads.Asked,
-  insert-reads.Learnt,
+  remove-reads.Asked,
+  remove-reads.Learnt,
   has-reads.Asked,
   has-reads.Learnt,
   try-tree-below t,
@@ -80,8 +79,8 @@ try-spare-mul-mate : (t : ℕ) → try-spare-lts.Need-mul-mate (
 try-spare-mul-mate t c = omega arith
 
 try-spare-element-copy-out-mate : (t : ℕ) → try-spare-lts.Need-element-copy-out-mate (
-  insert-reads.Asked,
-  insert-reads.Learnt,
+  remove-reads.Asked,
+  remove-reads.Learnt,
   has-reads.Asked,
   has-reads.Learnt,
   try-tree-below t,
@@ -89,56 +88,70 @@ try-spare-element-copy-out-mate : (t : ℕ) → try-spare-lts.Need-element-copy-
 ) (try-spare-at t) try-spare.Post
 try-spare-element-copy-out-mate t c = omega arith
 
-try-spare-sub-has : (t : ℕ) → try-spare-lts.Need-sub-has (
-  insert-reads.Asked,
-  insert-reads.Learnt,
-  has-reads.Asked,
-  has-reads.Learnt,
-  try-tree-below t,
-  try-tree.Post,
-) (try-spare-at t) try-spare.Post
-try-spare-sub-has t c = omega (arith, c .before .before .before .before .before .pre .1 .1)
-
-try-spare-has-requires : (t : ℕ) → try-spare-lts.Need-has-requires (
-  insert-reads.Asked,
-  insert-reads.Learnt,
-  has-reads.Asked,
-  has-reads.Learnt,
-  try-tree-below t,
-  try-tree.Post,
-) (try-spare-at t) try-spare.Post
-try-spare-has-requires t c κs =
-    let e = c .before .before .before .before .before in
-    omega (arith, e .pre .1 .2 .below (e .args .s .0))
-
 try-spare-returns : (t : ℕ) → try-spare-lts.Need-returns (
-  insert-reads.Asked,
-  insert-reads.Learnt,
+  remove-reads.Asked,
+  remove-reads.Learnt,
   has-reads.Asked,
   has-reads.Learnt,
   try-tree-below t,
   try-tree.Post,
 ) (try-spare-at t) try-spare.Post
 try-spare-returns t c =
-    let e = c .before .before .before .before .before .before .before in
+    let e = c .before .before .before .before .before in
     let a = e .args in
-    let i = c .before .before .before .before .before .insert in
-    spare-seen (a .t .0) (a .s .0) (a .goal .0) (a .rows .now) (a .mates .now) (a .tree-seen .now) (a .spare-seen .now) (i .last .0) (e .pre .1 .0) (e .pre .1 .2 .mates-length) (i .ensures .1) (i .ensures .0) (e .pre .1 .1)
-    (sym (c .before .has .ensures) ∙ c .if1 .taken)
+    let i = c .before .before .before .remove in
+    spare-free (a .t .0) (a .s .0) (a .goal .0) (a .rows .now) (a .mates .now) (a .tree-seen .now) (a .live .now) (i .last .0) (e .pre .1 .0) (e .pre .1 .1 .mates-length) (i .ensures .1) (i .ensures .0) (c .if1 .taken)
 
-try-spare-add-mates : (t : ℕ) → try-spare-lts.Need-add-mates (
-  insert-reads.Asked,
-  insert-reads.Learnt,
+try-spare-sub-has : (t : ℕ) → try-spare-lts.Need-sub-has (
+  remove-reads.Asked,
+  remove-reads.Learnt,
   has-reads.Asked,
   has-reads.Learnt,
   try-tree-below t,
   try-tree.Post,
 ) (try-spare-at t) try-spare.Post
-try-spare-add-mates t c = omega (arith, c .before .before .before .before .before .before .before .before .pre .1 .2 .rank)
+try-spare-sub-has t c = omega (arith, c .before .if1 .left)
+
+try-spare-has-requires : (t : ℕ) → try-spare-lts.Need-has-requires (
+  remove-reads.Asked,
+  remove-reads.Learnt,
+  has-reads.Asked,
+  has-reads.Learnt,
+  try-tree-below t,
+  try-tree.Post,
+) (try-spare-at t) try-spare.Post
+try-spare-has-requires t c κs =
+    let e = c .before .before .before .before .before .before in
+    omega (arith, e .pre .1 .1 .below (e .args .s .0))
+
+try-spare-returns-2 : (t : ℕ) → try-spare-lts.Need-returns-2 (
+  remove-reads.Asked,
+  remove-reads.Learnt,
+  has-reads.Asked,
+  has-reads.Learnt,
+  try-tree-below t,
+  try-tree.Post,
+) (try-spare-at t) try-spare.Post
+try-spare-returns-2 t c =
+    let e = c .before .before .before .before .before .before .before .before in
+    let a = e .args in
+    let i = c .before .before .before .before .before .before .remove in
+    spare-seen (a .t .0) (a .s .0) (a .goal .0) (a .rows .now) (a .mates .now) (a .tree-seen .now) (a .live .now) (i .last .0) (e .pre .1 .0) (e .pre .1 .1 .mates-length) (i .ensures .1) (i .ensures .0) (c .before .before .before .if1 .left)
+    (sym (c .before .has .ensures) ∙ c .if2 .taken)
+
+try-spare-add-mates : (t : ℕ) → try-spare-lts.Need-add-mates (
+  remove-reads.Asked,
+  remove-reads.Learnt,
+  has-reads.Asked,
+  has-reads.Learnt,
+  try-tree-below t,
+  try-tree.Post,
+) (try-spare-at t) try-spare.Post
+try-spare-add-mates t c = omega (arith, c .before .before .before .before .before .before .before .before .before .pre .1 .1 .rank)
 
 try-spare-mul-mates : (t : ℕ) → try-spare-lts.Need-mul-mates (
-  insert-reads.Asked,
-  insert-reads.Learnt,
+  remove-reads.Asked,
+  remove-reads.Learnt,
   has-reads.Asked,
   has-reads.Learnt,
   try-tree-below t,
@@ -147,8 +160,8 @@ try-spare-mul-mates : (t : ℕ) → try-spare-lts.Need-mul-mates (
 try-spare-mul-mates t c = omega arith
 
 try-spare-element-write-mates : (t : ℕ) → try-spare-lts.Need-element-write-mates (
-  insert-reads.Asked,
-  insert-reads.Learnt,
+  remove-reads.Asked,
+  remove-reads.Learnt,
   has-reads.Asked,
   has-reads.Learnt,
   try-tree-below t,
@@ -156,60 +169,59 @@ try-spare-element-write-mates : (t : ℕ) → try-spare-lts.Need-element-write-m
 ) (try-spare-at t) try-spare.Post
 try-spare-element-write-mates t c = omega arith
 
-try-spare-sub-t16 : (t : ℕ) → try-spare-lts.Need-sub-t16 (
-  insert-reads.Asked,
-  insert-reads.Learnt,
+try-spare-sub-t15 : (t : ℕ) → try-spare-lts.Need-sub-t15 (
+  remove-reads.Asked,
+  remove-reads.Learnt,
   has-reads.Asked,
   has-reads.Learnt,
   try-tree-below t,
   try-tree.Post,
 ) (try-spare-at t) try-spare.Post
-try-spare-sub-t16 t c = omega (arith, c .before .before .before .before .before .before .before .before .pre .1 .1)
+try-spare-sub-t15 t c = omega (arith, c .before .before .before .before .if1 .left)
 
 try-spare-try-tree-requires : (t : ℕ) → try-spare-lts.Need-try-tree-requires (
-  insert-reads.Asked,
-  insert-reads.Learnt,
+  remove-reads.Asked,
+  remove-reads.Learnt,
   has-reads.Asked,
   has-reads.Learnt,
   try-tree-below t,
   try-tree.Post,
 ) (try-spare-at t) try-spare.Post
 try-spare-try-tree-requires t c κs =
-    let e = c .before .before .before .before .before .before .before .before .before .before .before in
+    let e = c .before .before .before .before .before .before .before .before .before .before .before .before in
     let a = e .args in
-    let i = c .before .before .before .before .before .before .before .before .before .insert in
-    let r = e .pre .1 .2 in
-    let l : getD (a .mates .now) (a .s .0) 0 - 1 < 64 = omega (arith, e .pre .1 .1, r .below (a .s .0)) in (
-      omega (arith, e .pre .0, tree-falls (getD (a .mates .now) (a .s .0) 0 - 1) (bit (a .tree-seen .now)) l (sym (c .before .before .before .before .before .has .ensures) ∙ c .before .before .before .before .if1 .left)),
+    let i = c .before .before .before .before .before .before .before .before .before .before .remove in
+    let r = e .pre .1 .1 in
+    let l : getD (a .mates .now) (a .s .0) 0 - 1 < 64 = omega (arith, c .before .before .before .before .before .before .before .if1 .left, r .below (a .s .0)) in (
+      omega (arith, e .pre .0, tree-falls (getD (a .mates .now) (a .s .0) 0 - 1) (bit (a .tree-seen .now)) l (sym (c .before .before .before .before .before .has .ensures) ∙ c .before .before .before .before .if2 .left)),
       record {
         rank = l;
         mates-length = length-set (a .mates .now) (a .s .0) (a .t .0 + 1) ∙ r .mates-length;
-        seen-length = i .ensures .1;
+        live-length = i .ensures .1;
         below = below-set 64 (a .mates .now) (a .s .0) (a .t .0 + 1) (omega (arith, e .pre .1 .0, r .mates-length)) (omega (arith, r .rank)) (r .below);
-        taken-are = taken-set (a .mates .now) (a .taken .now) (a .s .0) (a .t .0 + 1) (omega (arith, e .pre .1 .0, r .mates-length)) (e .pre .1 .1) (omega arith) (r .taken-are);
       },
     )
 
-try-spare-returns-2 : (t : ℕ) → try-spare-lts.Need-returns-2 (
-  insert-reads.Asked,
-  insert-reads.Learnt,
+try-spare-returns-3 : (t : ℕ) → try-spare-lts.Need-returns-3 (
+  remove-reads.Asked,
+  remove-reads.Learnt,
   has-reads.Asked,
   has-reads.Learnt,
   try-tree-below t,
   try-tree.Post,
 ) (try-spare-at t) try-spare.Post
-try-spare-returns-2 t c =
-    let e = c .before .before .before .before .before .before .before .before .before .before .before .before .before in
+try-spare-returns-3 t c =
+    let e = c .before .before .before .before .before .before .before .before .before .before .before .before .before .before in
     let a = e .args in
-    let i = c .before .before .before .before .before .before .before .before .before .before .before .insert in
-    spare-led (a .t .0) (a .s .0) (a .goal .0) (a .rows .now) (a .mates .now) (a .tree-seen .now) (a .spare-seen .now) (i .last .0) (e .pre .1 .0) (e .pre .1 .2 .mates-length) (i .ensures .1) (i .ensures .0) (e .pre .1 .1)
-    (sym (c .before .before .before .before .before .before .before .has .ensures) ∙ c .before .before .before .before .before .before .if1 .left)
-    (c .before .try-tree .last .1 .1 .1 .1 .0) (c .before .try-tree .last .1 .1 .1 .1 .1 .0) (c .before .try-tree .last .1 .1 .1 .1 .1 .1 .0)
-    (rw (c .if2 .taken) at (c .before .try-tree .ensures))
+    let i = c .before .before .before .before .before .before .before .before .before .before .before .before .remove in
+    spare-led (a .t .0) (a .s .0) (a .goal .0) (a .rows .now) (a .mates .now) (a .tree-seen .now) (a .live .now) (i .last .0) (e .pre .1 .0) (e .pre .1 .1 .mates-length) (i .ensures .1) (i .ensures .0) (c .before .before .before .before .before .before .before .before .before .if1 .left)
+    (sym (c .before .before .before .before .before .before .before .has .ensures) ∙ c .before .before .before .before .before .before .if2 .left)
+    (c .before .try-tree .last .1 .1 .1 .0) (c .before .try-tree .last .1 .1 .1 .1 .0) (c .before .try-tree .last .1 .1 .1 .1 .1 .0)
+    (rw (c .if3 .taken) at (c .before .try-tree .ensures))
 
 try-spare-mul-mates-2 : (t : ℕ) → try-spare-lts.Need-mul-mates-2 (
-  insert-reads.Asked,
-  insert-reads.Learnt,
+  remove-reads.Asked,
+  remove-reads.Learnt,
   has-reads.Asked,
   has-reads.Learnt,
   try-tree-below t,
@@ -218,8 +230,8 @@ try-spare-mul-mates-2 : (t : ℕ) → try-spare-lts.Need-mul-mates-2 (
 try-spare-mul-mates-2 t c = omega arith
 
 try-spare-element-write-mates-2 : (t : ℕ) → try-spare-lts.Need-element-write-mates-2 (
-  insert-reads.Asked,
-  insert-reads.Learnt,
+  remove-reads.Asked,
+  remove-reads.Learnt,
   has-reads.Asked,
   has-reads.Learnt,
   try-tree-below t,
@@ -227,37 +239,35 @@ try-spare-element-write-mates-2 : (t : ℕ) → try-spare-lts.Need-element-write
 ) (try-spare-at t) try-spare.Post
 try-spare-element-write-mates-2 t c = omega arith
 
-try-spare-returns-3 : (t : ℕ) → try-spare-lts.Need-returns-3 (
-  insert-reads.Asked,
-  insert-reads.Learnt,
+try-spare-returns-4 : (t : ℕ) → try-spare-lts.Need-returns-4 (
+  remove-reads.Asked,
+  remove-reads.Learnt,
   has-reads.Asked,
   has-reads.Learnt,
   try-tree-below t,
   try-tree.Post,
 ) (try-spare-at t) try-spare.Post
-try-spare-returns-3 t c =
-    let e = c .before .before .before .before .before .before .before .before .before .before .before .before .before in
+try-spare-returns-4 t c =
+    let e = c .before .before .before .before .before .before .before .before .before .before .before .before .before .before in
     let a = e .args in
-    let i = c .before .before .before .before .before .before .before .before .before .before .before .insert in
-    spare-failed (a .t .0) (a .s .0) (a .goal .0) (a .rows .now) (a .mates .now) (a .tree-seen .now) (a .spare-seen .now) (i .last .0) (e .pre .1 .0) (e .pre .1 .2 .mates-length) (i .ensures .1) (i .ensures .0) (e .pre .1 .1)
-    (sym (c .before .before .before .before .before .before .before .has .ensures) ∙ c .before .before .before .before .before .before .if1 .left)
-    (c .before .try-tree .last .1 .1 .1 .1 .0) (c .before .try-tree .last .1 .1 .1 .1 .1 .0) (c .before .try-tree .last .1 .1 .1 .1 .1 .1 .0)
-    (rw (c .if2 .left) at (c .before .try-tree .ensures))
+    let i = c .before .before .before .before .before .before .before .before .before .before .before .before .remove in
+    spare-failed (a .t .0) (a .s .0) (a .goal .0) (a .rows .now) (a .mates .now) (a .tree-seen .now) (a .live .now) (i .last .0) (e .pre .1 .0) (e .pre .1 .1 .mates-length) (i .ensures .1) (i .ensures .0) (c .before .before .before .before .before .before .before .before .before .if1 .left)
+    (sym (c .before .before .before .before .before .before .before .has .ensures) ∙ c .before .before .before .before .before .before .if2 .left)
+    (c .before .try-tree .last .1 .1 .1 .0) (c .before .try-tree .last .1 .1 .1 .1 .0) (c .before .try-tree .last .1 .1 .1 .1 .1 .0)
+    (rw (c .if3 .left) at (c .before .try-tree .ensures))
 
 abbrev try-tree-Inv-loop : try-tree-lts.InvT-loop
-try-tree-Inv-loop t goal rows taken mates₀ tree-seen₀ spare-seen₀ mates tree-seen spare-seen =
-    Passing (t .0) (goal .0) rows taken mates₀ tree-seen₀ spare-seen₀ mates tree-seen spare-seen
+try-tree-Inv-loop t goal rows mates₀ tree-seen₀ live₀ mates tree-seen live =
+    Passing (t .0) (goal .0) rows mates₀ tree-seen₀ live₀ mates tree-seen live
 
 abbrev try-tree-μ-loop : try-tree-lts.MeasureT-loop
-try-tree-μ-loop t goal rows taken mates₀ tree-seen₀ spare-seen₀ mates tree-seen spare-seen = 256 - count 256 (member spare-seen)
+try-tree-μ-loop t goal rows mates₀ tree-seen₀ live₀ mates tree-seen live = count 256 (member live)
 
 try-tree-goal-covers-requires : (t : ℕ) → try-tree-lts.Need-goal-covers-requires (
   goal-covers-reads.Asked,
   goal-covers-reads.Learnt,
   with-reads.Asked,
   with-reads.Learnt,
-  add-free-reads.Asked,
-  add-free-reads.Learnt,
   next-reads.Asked,
   next-reads.Learnt,
   try-spare-below t,
@@ -270,8 +280,6 @@ try-tree-add-mates : (t : ℕ) → try-tree-lts.Need-add-mates (
   goal-covers-reads.Learnt,
   with-reads.Asked,
   with-reads.Learnt,
-  add-free-reads.Asked,
-  add-free-reads.Learnt,
   next-reads.Asked,
   next-reads.Learnt,
   try-spare-below t,
@@ -284,8 +292,6 @@ try-tree-cast-mates : (t : ℕ) → try-tree-lts.Need-cast-mates (
   goal-covers-reads.Learnt,
   with-reads.Asked,
   with-reads.Learnt,
-  add-free-reads.Asked,
-  add-free-reads.Learnt,
   next-reads.Asked,
   next-reads.Learnt,
   try-spare-below t,
@@ -298,8 +304,6 @@ try-tree-mul-mates : (t : ℕ) → try-tree-lts.Need-mul-mates (
   goal-covers-reads.Learnt,
   with-reads.Asked,
   with-reads.Learnt,
-  add-free-reads.Asked,
-  add-free-reads.Learnt,
   next-reads.Asked,
   next-reads.Learnt,
   try-spare-below t,
@@ -312,8 +316,6 @@ try-tree-element-write-mates : (t : ℕ) → try-tree-lts.Need-element-write-mat
   goal-covers-reads.Learnt,
   with-reads.Asked,
   with-reads.Learnt,
-  add-free-reads.Asked,
-  add-free-reads.Learnt,
   next-reads.Asked,
   next-reads.Learnt,
   try-spare-below t,
@@ -321,15 +323,13 @@ try-tree-element-write-mates : (t : ℕ) → try-tree-lts.Need-element-write-mat
 ) (try-tree-at t) try-tree.Post try-tree-Inv-loop try-tree-μ-loop
 try-tree-element-write-mates t c =
     let a = c .before .before .before .before .args in
-    omega (arith, goal-within (a .t .0) (a .goal .0) (a .rows .now) (a .mates .now) (a .tree-seen .now) (a .spare-seen .now) (sym (c .before .before .before .goal-covers .ensures) ∙ c .before .before .if1 .taken))
+    omega (arith, goal-within (a .t .0) (a .goal .0) (a .rows .now) (a .mates .now) (a .tree-seen .now) (a .live .now) (sym (c .before .before .before .goal-covers .ensures) ∙ c .before .before .if1 .taken))
 
 try-tree-returns : (t : ℕ) → try-tree-lts.Need-returns (
   goal-covers-reads.Asked,
   goal-covers-reads.Learnt,
   with-reads.Asked,
   with-reads.Learnt,
-  add-free-reads.Asked,
-  add-free-reads.Learnt,
   next-reads.Asked,
   next-reads.Learnt,
   try-spare-below t,
@@ -338,15 +338,13 @@ try-tree-returns : (t : ℕ) → try-tree-lts.Need-returns (
 try-tree-returns t c =
     let e = c .before .before .before .before in
     let a = e .args in
-    tree-hit (a .t .0) (a .goal .0) (a .rows .now) (a .mates .now) (a .tree-seen .now) (a .spare-seen .now) (sym (c .before .before .before .goal-covers .ensures) ∙ c .before .before .if1 .taken) (e .pre .1 .mates-length) (e .pre .1 .seen-length)
+    tree-hit (a .t .0) (a .goal .0) (a .rows .now) (a .mates .now) (a .tree-seen .now) (a .live .now) (sym (c .before .before .before .goal-covers .ensures) ∙ c .before .before .if1 .taken) (e .pre .1 .mates-length) (e .pre .1 .live-length)
 
 try-tree-with-requires : (t : ℕ) → try-tree-lts.Need-with-requires (
   goal-covers-reads.Asked,
   goal-covers-reads.Learnt,
   with-reads.Asked,
   with-reads.Learnt,
-  add-free-reads.Asked,
-  add-free-reads.Learnt,
   next-reads.Asked,
   next-reads.Learnt,
   try-spare-below t,
@@ -354,43 +352,22 @@ try-tree-with-requires : (t : ℕ) → try-tree-lts.Need-with-requires (
 ) (try-tree-at t) try-tree.Post try-tree-Inv-loop try-tree-μ-loop
 try-tree-with-requires t c κs = omega (arith, c .before .before .before .pre .1 .rank)
 
-try-tree-add-free-requires : (t : ℕ) → try-tree-lts.Need-add-free-requires (
-  goal-covers-reads.Asked,
-  goal-covers-reads.Learnt,
-  with-reads.Asked,
-  with-reads.Learnt,
-  add-free-reads.Asked,
-  add-free-reads.Learnt,
-  next-reads.Asked,
-  next-reads.Learnt,
-  try-spare-below t,
-  try-spare.Post,
-) (try-tree-at t) try-tree.Post try-tree-Inv-loop try-tree-μ-loop
-try-tree-add-free-requires t c κs = (c .before .before .before .before .before .pre .1 .rank, c .before .before .before .before .before .pre .1 .seen-length)
-
 -- Tree rank t is entered before the loop.
-try-tree-entered : (t : ℕ) (f : try-tree-lts.After-add-free (
+try-tree-entered : (t : ℕ) (f : try-tree-lts.After-with (
   goal-covers-reads.Asked,
   goal-covers-reads.Learnt,
   with-reads.Asked,
   with-reads.Learnt,
-  add-free-reads.Asked,
-  add-free-reads.Learnt,
   next-reads.Asked,
   next-reads.Learnt,
   try-spare-below t,
   try-spare.Post,
-) (try-tree-at t) try-tree.Post try-tree-Inv-loop try-tree-μ-loop) → let a = f .before .before .before .before .before .before .args in
-    Entered (a .t .0) (a .goal .0) (a .rows .now) (a .taken .now) (a .mates .now) (a .tree-seen .now) (a .spare-seen .now) (f .before .before .with .result) (f .add-free .last .1 .1 .1 .0)
+) (try-tree-at t) try-tree.Post try-tree-Inv-loop try-tree-μ-loop) → let a = f .before .before .before .before .args in
+    Entered (a .t .0) (a .goal .0) (a .rows .now) (a .tree-seen .now) (f .with .result)
 try-tree-entered t f =
-    let e = f .before .before .before .before .before .before in
     record {
-      missed = sym (f .before .before .before .before .before .goal-covers .ensures) ∙ f .before .before .before .before .if1 .left;
-      size = e .pre .1 .seen-length;
-      size₀ = f .add-free .ensures .1;
-      taken-are = e .pre .1 .taken-are;
-      marked = f .before .before .with .ensures;
-      free = f .add-free .ensures .0;
+      missed = sym (f .before .before .before .goal-covers .ensures) ∙ f .before .before .if1 .left;
+      marked = f .with .ensures;
     }
 
 try-tree-loop-holds : (t : ℕ) → try-tree-lts.Need-loop-holds (
@@ -398,8 +375,6 @@ try-tree-loop-holds : (t : ℕ) → try-tree-lts.Need-loop-holds (
   goal-covers-reads.Learnt,
   with-reads.Asked,
   with-reads.Learnt,
-  add-free-reads.Asked,
-  add-free-reads.Learnt,
   next-reads.Asked,
   next-reads.Learnt,
   try-spare-below t,
@@ -407,33 +382,28 @@ try-tree-loop-holds : (t : ℕ) → try-tree-lts.Need-loop-holds (
 ) (try-tree-at t) try-tree.Post try-tree-Inv-loop try-tree-μ-loop
 try-tree-loop-holds t c =
     let f = c in
-    let w = f .before .before .with in
-    let e = f .before .before .before .before .before .before in
+    let e = f .before .before .before .before in
     let a = e .args in
     let en = try-tree-entered t f in
-    passing-start (a .t .0) (a .goal .0) (a .rows .now) (a .taken .now) (a .mates .now) (a .tree-seen .now) (a .spare-seen .now) (w .result) (f .add-free .last .1 .1 .1 .0) en (e .pre .1 .mates-length)
+    passing-start (a .t .0) (a .goal .0) (a .rows .now) (a .mates .now) (a .tree-seen .now) (a .live .now) (f .with .result) en (e .pre .1 .mates-length) (e .pre .1 .live-length)
 
 try-tree-next-requires : (t : ℕ) → try-tree-lts.Need-next-requires (
   goal-covers-reads.Asked,
   goal-covers-reads.Learnt,
   with-reads.Asked,
   with-reads.Learnt,
-  add-free-reads.Asked,
-  add-free-reads.Learnt,
   next-reads.Asked,
   next-reads.Learnt,
   try-spare-below t,
   try-spare.Post,
 ) (try-tree-at t) try-tree.Post try-tree-Inv-loop try-tree-μ-loop
-try-tree-next-requires t c κs = c .before .before .before .before .before .before .before .before .pre .1 .rank
+try-tree-next-requires t c κs = c .before .before .before .before .before .before .pre .1 .rank
 
 try-tree-returns-2 : (t : ℕ) → try-tree-lts.Need-returns-2 (
   goal-covers-reads.Asked,
   goal-covers-reads.Learnt,
   with-reads.Asked,
   with-reads.Learnt,
-  add-free-reads.Asked,
-  add-free-reads.Learnt,
   next-reads.Asked,
   next-reads.Learnt,
   try-spare-below t,
@@ -441,22 +411,17 @@ try-tree-returns-2 : (t : ℕ) → try-tree-lts.Need-returns-2 (
 ) (try-tree-at t) try-tree.Post try-tree-Inv-loop try-tree-μ-loop
 try-tree-returns-2 t c =
     let f = c .before .before .before .before in
-    let w = f .before .before .with in
-    let e = f .before .before .before .before .before .before in
+    let e = f .before .before .before .before in
     let a = e .args in
     let en = try-tree-entered t f in
     let l = c .before .before .before .loop in
-    passing-end (a .t .0) (a .goal .0) (a .rows .now) (a .taken .now) (a .mates .now) (a .tree-seen .now) (a .spare-seen .now) (w .result) (f .add-free .last .1 .1 .1 .0) en
-    (l .mates) (l .tree-seen) (l .spare-seen) (l .inv) (c .before .next .result) (c .before .next .ensures)
-    (c .if2 .taken)
+    passing-end (a .t .0) (a .goal .0) (a .rows .now) (a .mates .now) (a .tree-seen .now) (a .live .now) (f .with .result) en (l .mates) (l .tree-seen) (l .live) (l .inv) (c .before .next .result) (c .before .next .ensures) (c .if2 .taken)
 
 try-tree-try-spare-requires : (t : ℕ) → try-tree-lts.Need-try-spare-requires (
   goal-covers-reads.Asked,
   goal-covers-reads.Learnt,
   with-reads.Asked,
   with-reads.Learnt,
-  add-free-reads.Asked,
-  add-free-reads.Learnt,
   next-reads.Asked,
   next-reads.Learnt,
   try-spare-below t,
@@ -464,22 +429,19 @@ try-tree-try-spare-requires : (t : ℕ) → try-tree-lts.Need-try-spare-requires
 ) (try-tree-at t) try-tree.Post try-tree-Inv-loop try-tree-μ-loop
 try-tree-try-spare-requires t c κs =
     let f = c .before .before .before .before .before .before .before in
-    let w = f .before .before .with in
-    let e = f .before .before .before .before .before .before in
+    let e = f .before .before .before .before in
     let a = e .args in
     let en = try-tree-entered t f in
     let l = c .before .before .before .before .before .before .loop in
     let n = c .before .before .before .before .next in (
-      omega (arith, e .pre .0, spare-falls (a .t .0) (a .goal .0) (a .rows .now) (a .taken .now) (a .mates .now) (a .tree-seen .now) (a .spare-seen .now) (w .result) (f .add-free .last .1 .1 .1 .0) en (l .tree-seen) (l .inv .grown)),
+      omega (arith, e .pre .0, spare-falls (a .t .0) (a .goal .0) (a .rows .now) (a .mates .now) (a .tree-seen .now) (a .live .now) (f .with .result) en (l .tree-seen) (l .inv .grown)),
       (
-        first-within 256 (λ j. inRow (a .rows .now) (a .t .0) j && not (member (l .spare-seen) j)) (n .result) (n .ensures) (c .before .before .before .if2 .left),
-        found-matched (a .t .0) (a .goal .0) (a .rows .now) (a .taken .now) (a .mates .now) (a .tree-seen .now) (a .spare-seen .now) (w .result) (f .add-free .last .1 .1 .1 .0) en (l .mates) (l .tree-seen) (l .spare-seen) (l .inv) (n .result) (n .ensures) (c .before .before .before .if2 .left),
+        next-hit (a .rows .now) (l .live) (a .t .0) (n .result) (n .ensures) (c .before .before .before .if2 .left) .0,
         record {
           rank = e .pre .1 .rank;
           mates-length = l .inv .mates-length;
-          seen-length = l .inv .seen-length;
+          live-length = l .inv .live-length;
           below = l .inv .below 64 (e .pre .1 .rank) (e .pre .1 .below);
-          taken-are = l .inv .taken-are;
         },
       ),
     )
@@ -489,8 +451,6 @@ try-tree-returns-3 : (t : ℕ) → try-tree-lts.Need-returns-3 (
   goal-covers-reads.Learnt,
   with-reads.Asked,
   with-reads.Learnt,
-  add-free-reads.Asked,
-  add-free-reads.Learnt,
   next-reads.Asked,
   next-reads.Learnt,
   try-spare-below t,
@@ -498,16 +458,14 @@ try-tree-returns-3 : (t : ℕ) → try-tree-lts.Need-returns-3 (
 ) (try-tree-at t) try-tree.Post try-tree-Inv-loop try-tree-μ-loop
 try-tree-returns-3 t c =
     let f = c .before .before .before .before .before .before .before .before .before in
-    let w = f .before .before .with in
-    let e = f .before .before .before .before .before .before in
+    let e = f .before .before .before .before in
     let a = e .args in
     let en = try-tree-entered t f in
     let l = c .before .before .before .before .before .before .before .before .loop in
     let n = c .before .before .before .before .before .before .next in
     let r = c .before .try-spare in
-    passing-met (a .t .0) (a .goal .0) (a .rows .now) (a .taken .now) (a .mates .now) (a .tree-seen .now) (a .spare-seen .now) (w .result) (f .add-free .last .1 .1 .1 .0) en
-    (l .mates) (l .tree-seen) (l .spare-seen) (l .inv) (n .result) (n .ensures)
-    (e .pre .1 .rank) (e .pre .1 .below) (c .before .before .before .before .before .if2 .left) (r .last .1 .1 .1 .1 .1 .0) (r .last .1 .1 .1 .1 .1 .1 .0) (r .last .1 .1 .1 .1 .1 .1 .1 .0)
+    passing-met (a .t .0) (a .goal .0) (a .rows .now) (a .mates .now) (a .tree-seen .now) (a .live .now) (f .with .result) en (l .mates) (l .tree-seen) (l .live) (l .inv) (n .result) (n .ensures)
+    (e .pre .1 .rank) (e .pre .1 .below) (c .before .before .before .before .before .if2 .left) (r .last .1 .1 .1 .1 .0) (r .last .1 .1 .1 .1 .1 .0) (r .last .1 .1 .1 .1 .1 .1 .0)
     (rw (c .if3 .taken) at (r .ensures))
 
 try-tree-loop-less : (t : ℕ) → try-tree-lts.Need-loop-less (
@@ -515,8 +473,6 @@ try-tree-loop-less : (t : ℕ) → try-tree-lts.Need-loop-less (
   goal-covers-reads.Learnt,
   with-reads.Asked,
   with-reads.Learnt,
-  add-free-reads.Asked,
-  add-free-reads.Learnt,
   next-reads.Asked,
   next-reads.Learnt,
   try-spare-below t,
@@ -524,16 +480,14 @@ try-tree-loop-less : (t : ℕ) → try-tree-lts.Need-loop-less (
 ) (try-tree-at t) try-tree.Post try-tree-Inv-loop try-tree-μ-loop
 try-tree-loop-less t c =
     let f = c .before .before .before .before .before .before .before .before .before in
-    let w = f .before .before .with in
-    let e = f .before .before .before .before .before .before in
+    let e = f .before .before .before .before in
     let a = e .args in
     let en = try-tree-entered t f in
     let l = c .before .before .before .before .before .before .before .before .loop in
     let n = c .before .before .before .before .before .before .next in
     let r = c .before .try-spare in
-    passing-less (a .t .0) (a .goal .0) (a .rows .now) (a .taken .now) (a .mates .now) (a .tree-seen .now) (a .spare-seen .now) (w .result) (f .add-free .last .1 .1 .1 .0) en
-    (l .mates) (l .tree-seen) (l .spare-seen) (l .inv) (n .result) (n .ensures)
-    (e .pre .1 .rank) (e .pre .1 .below) (c .before .before .before .before .before .if2 .left) (r .last .1 .1 .1 .1 .1 .0) (r .last .1 .1 .1 .1 .1 .1 .0) (r .last .1 .1 .1 .1 .1 .1 .1 .0)
+    passing-less (a .t .0) (a .goal .0) (a .rows .now) (a .mates .now) (a .tree-seen .now) (a .live .now) (f .with .result) en (l .mates) (l .tree-seen) (l .live) (l .inv) (n .result) (n .ensures)
+    (e .pre .1 .rank) (e .pre .1 .below) (c .before .before .before .before .before .if2 .left) (r .last .1 .1 .1 .1 .0) (r .last .1 .1 .1 .1 .1 .0) (r .last .1 .1 .1 .1 .1 .1 .0)
     (rw (c .if3 .left) at (r .ensures))
 
 try-tree-loop-again : (t : ℕ) → try-tree-lts.Need-loop-again (
@@ -541,8 +495,6 @@ try-tree-loop-again : (t : ℕ) → try-tree-lts.Need-loop-again (
   goal-covers-reads.Learnt,
   with-reads.Asked,
   with-reads.Learnt,
-  add-free-reads.Asked,
-  add-free-reads.Learnt,
   next-reads.Asked,
   next-reads.Learnt,
   try-spare-below t,
@@ -550,22 +502,20 @@ try-tree-loop-again : (t : ℕ) → try-tree-lts.Need-loop-again (
 ) (try-tree-at t) try-tree.Post try-tree-Inv-loop try-tree-μ-loop
 try-tree-loop-again t c =
     let f = c .before .before .before .before .before .before .before .before .before in
-    let w = f .before .before .with in
-    let e = f .before .before .before .before .before .before in
+    let e = f .before .before .before .before in
     let a = e .args in
     let en = try-tree-entered t f in
     let l = c .before .before .before .before .before .before .before .before .loop in
     let n = c .before .before .before .before .before .before .next in
     let r = c .before .try-spare in
-    passing-turn (a .t .0) (a .goal .0) (a .rows .now) (a .taken .now) (a .mates .now) (a .tree-seen .now) (a .spare-seen .now) (w .result) (f .add-free .last .1 .1 .1 .0) en
-    (l .mates) (l .tree-seen) (l .spare-seen) (l .inv) (n .result) (n .ensures)
-    (e .pre .1 .rank) (e .pre .1 .below) (c .before .before .before .before .before .if2 .left) (r .last .1 .1 .1 .1 .1 .0) (r .last .1 .1 .1 .1 .1 .1 .0) (r .last .1 .1 .1 .1 .1 .1 .1 .0)
+    passing-turn (a .t .0) (a .goal .0) (a .rows .now) (a .mates .now) (a .tree-seen .now) (a .live .now) (f .with .result) en (l .mates) (l .tree-seen) (l .live) (l .inv) (n .result) (n .ensures)
+    (e .pre .1 .rank) (e .pre .1 .below) (c .before .before .before .before .before .if2 .left) (r .last .1 .1 .1 .1 .0) (r .last .1 .1 .1 .1 .1 .0) (r .last .1 .1 .1 .1 .1 .1 .0)
     (rw (c .if3 .left) at (r .ensures))
 
 pub +try-spare+try-tree-spec : {M : Type 1} → statement M
 +try-spare+try-tree-spec = close μ-try-spare μ-try-tree (λ t. try-spare-lts.spec (
-  insert-reads.Asked,
-  insert-reads.Learnt,
+  remove-reads.Asked,
+  remove-reads.Learnt,
   has-reads.Asked,
   has-reads.Learnt,
   try-tree-below t,
@@ -573,29 +523,28 @@ pub +try-spare+try-tree-spec : {M : Type 1} → statement M
 )
     (try-spare-at t)
     try-spare.Post
-    (try-spare-insert-requires t)
+    (try-spare-remove-requires t)
     (try-spare-cast-k t)
     (try-spare-mul-mate t)
     (try-spare-element-copy-out-mate t)
+    (try-spare-returns t)
     (try-spare-sub-has t)
     (try-spare-has-requires t)
-    (try-spare-returns t)
+    (try-spare-returns-2 t)
     (try-spare-add-mates t)
     (try-spare-mul-mates t)
     (try-spare-element-write-mates t)
-    (try-spare-sub-t16 t)
+    (try-spare-sub-t15 t)
     (try-spare-try-tree-requires t)
-    (try-spare-returns-2 t)
+    (try-spare-returns-3 t)
     (try-spare-mul-mates-2 t)
     (try-spare-element-write-mates-2 t)
-    (try-spare-returns-3 t))
+    (try-spare-returns-4 t))
     λ t. try-tree-lts.spec (
       goal-covers-reads.Asked,
       goal-covers-reads.Learnt,
       with-reads.Asked,
       with-reads.Learnt,
-      add-free-reads.Asked,
-      add-free-reads.Learnt,
       next-reads.Asked,
       next-reads.Learnt,
       try-spare-below t,
@@ -612,7 +561,6 @@ pub +try-spare+try-tree-spec : {M : Type 1} → statement M
     (try-tree-element-write-mates t)
     (try-tree-returns t)
     (try-tree-with-requires t)
-    (try-tree-add-free-requires t)
     (try-tree-loop-holds t)
     (try-tree-next-requires t)
     (try-tree-returns-2 t)

@@ -1,7 +1,7 @@
 -- `sets::next` meets its contract. Assumes nothing.
-use borrow.Author.Needs.{needs}
 use mathlib.Core.Path.{_∙_}
-use Rattle.sets.specs.SetsLaws.{first-unseen}
+use Rattle.sets.specs.SetsLaws.{pick-live}
+use borrow.Author.Needs.{needs}
 use Rattle.sets.proofs.next.Statement.{statement}
 use Rattle.sets.proofs.next.Tie as tie
 
@@ -11,65 +11,65 @@ mul-k c = search needs
 cast-k : tie.Need-cast-k
 cast-k c = search needs
 
-mul-less : tie.Need-mul-less
-mul-less c = search needs
+mul-both : tie.Need-mul-both
+mul-both c = search needs
 
-element-copy-out-less : tie.Need-element-copy-out-less
-element-copy-out-less c = search needs
+element-copy-out-both : tie.Need-element-copy-out-both
+element-copy-out-both c = search needs
 
-element-copy-out-less-2 : tie.Need-element-copy-out-less-2
-element-copy-out-less-2 c = search needs
+element-copy-out-both-2 : tie.Need-element-copy-out-both-2
+element-copy-out-both-2 c = search needs
 
-less-requires : tie.Need-less-requires
-less-requires c κs = search needs
+both-requires : tie.Need-both-requires
+both-requires c κs = search needs
 
-add-less : tie.Need-add-less
-add-less c = search needs
+add-both : tie.Need-add-both
+add-both c = search needs
 
-mul-less-2 : tie.Need-mul-less-2
-mul-less-2 c = search needs
+mul-both-2 : tie.Need-mul-both-2
+mul-both-2 c = search needs
 
-element-copy-out-less-3 : tie.Need-element-copy-out-less-3
-element-copy-out-less-3 c = search needs
+element-copy-out-both-3 : tie.Need-element-copy-out-both-3
+element-copy-out-both-3 c = search needs
 
-element-copy-out-less-4 : tie.Need-element-copy-out-less-4
-element-copy-out-less-4 c = search needs
+element-copy-out-both-4 : tie.Need-element-copy-out-both-4
+element-copy-out-both-4 c = search needs
 
-less-requires-2 : tie.Need-less-requires-2
-less-requires-2 c κs = search needs
+both-requires-2 : tie.Need-both-requires-2
+both-requires-2 c κs = search needs
 
-add-less-2 : tie.Need-add-less-2
-add-less-2 c = search needs
+add-both-2 : tie.Need-add-both-2
+add-both-2 c = search needs
 
-mul-less-3 : tie.Need-mul-less-3
-mul-less-3 c = search needs
+mul-both-3 : tie.Need-mul-both-3
+mul-both-3 c = search needs
 
-element-copy-out-less-5 : tie.Need-element-copy-out-less-5
-element-copy-out-less-5 c = search needs
+element-copy-out-both-5 : tie.Need-element-copy-out-both-5
+element-copy-out-both-5 c = search needs
 
-element-copy-out-less-6 : tie.Need-element-copy-out-less-6
-element-copy-out-less-6 c = search needs
+element-copy-out-both-6 : tie.Need-element-copy-out-both-6
+element-copy-out-both-6 c = search needs
 
-less-requires-3 : tie.Need-less-requires-3
-less-requires-3 c κs = search needs
+both-requires-3 : tie.Need-both-requires-3
+both-requires-3 c κs = search needs
 
-add-less-3 : tie.Need-add-less-3
-add-less-3 c = search needs
+add-both-3 : tie.Need-add-both-3
+add-both-3 c = search needs
 
-mul-less-4 : tie.Need-mul-less-4
-mul-less-4 c = search needs
+mul-both-4 : tie.Need-mul-both-4
+mul-both-4 c = search needs
 
-element-copy-out-less-7 : tie.Need-element-copy-out-less-7
-element-copy-out-less-7 c = search needs
+element-copy-out-both-7 : tie.Need-element-copy-out-both-7
+element-copy-out-both-7 c = search needs
 
-element-copy-out-less-8 : tie.Need-element-copy-out-less-8
-element-copy-out-less-8 c = search needs
+element-copy-out-both-8 : tie.Need-element-copy-out-both-8
+element-copy-out-both-8 c = search needs
 
-less-requires-4 : tie.Need-less-requires-4
-less-requires-4 c κs = search needs
+both-requires-4 : tie.Need-both-requires-4
+both-requires-4 c κs = search needs
 
-lowest-of-requires : tie.Need-lowest-of-requires
-lowest-of-requires c κs = search needs
+pick-of-requires : tie.Need-pick-of-requires
+pick-of-requires c κs = search needs
 
 returns : tie.Need-returns
 returns c =
@@ -78,9 +78,9 @@ returns c =
     let two = three .before .before .before in
     let one = two .before .before .before in
     let s = one .before .before .before .args in
-    c .lowest-of .ensures
-    ∙ first-unseen (s .rows .now) (s .t) (s .seen .now) (one .less .result) (two .less2 .result) (three .less3 .result) (four .less4 .result)
-    (one .less .ensures) (two .less2 .ensures) (three .less3 .ensures) (four .less4 .ensures)
+    c .pick-of .ensures
+    ∙ pick-live (s .rows .now) (s .t) (s .live .now) (one .both .result) (two .both2 .result) (three .both3 .result) (four .both4 .result)
+    (one .both .ensures) (two .both2 .ensures) (three .both3 .ensures) (four .both4 .ensures)
 
 pub next-spec : {M : Type 1} → statement M
 next-spec =
@@ -88,24 +88,24 @@ next-spec =
     (tie.spec
     mul-k
     cast-k
-    mul-less
-    element-copy-out-less
-    element-copy-out-less-2
-    less-requires
-    add-less
-    mul-less-2
-    element-copy-out-less-3
-    element-copy-out-less-4
-    less-requires-2
-    add-less-2
-    mul-less-3
-    element-copy-out-less-5
-    element-copy-out-less-6
-    less-requires-3
-    add-less-3
-    mul-less-4
-    element-copy-out-less-7
-    element-copy-out-less-8
-    less-requires-4
-    lowest-of-requires
+    mul-both
+    element-copy-out-both
+    element-copy-out-both-2
+    both-requires
+    add-both
+    mul-both-2
+    element-copy-out-both-3
+    element-copy-out-both-4
+    both-requires-2
+    add-both-2
+    mul-both-3
+    element-copy-out-both-5
+    element-copy-out-both-6
+    both-requires-3
+    add-both-3
+    mul-both-4
+    element-copy-out-both-7
+    element-copy-out-both-8
+    both-requires-4
+    pick-of-requires
     returns)

@@ -8,9 +8,9 @@ use borrow.Author.Needs.{needs}
 use lib.Dec.{eqb}
 use lib.ListN.{length}
 use Rattle.bits.specs.Bit.{bit}
-use Rattle.bits.specs.BitLaws.{first-below}
+use Rattle.bits.specs.BitLaws.{first-below, fewer}
 use Rattle.sets.specs.Sets.{inRow}
-use Rattle.solution.specs.RowLaws.{fewer, fill-turn, fill-end}
+use Rattle.solution.specs.RowLaws.{fill-turn, fill-end}
 use Rattle.solution.proofs.fill.Statement.{statement}
 use Rattle.solution.proofs.fill.Tie as tie
 
@@ -39,7 +39,7 @@ without-lowest-requires c κs = omega arith
 loop-less : tie.Need-loop-less Inv-loop μ-loop
 loop-less c =
     let l = c .before .before .before .before .before .loop in
-    fewer (l .left) (c .without-lowest .result) (omega arith) (l .inv .1) (omega arith) (c .without-lowest .ensures)
+    fewer 64 (l .left) (c .without-lowest .result) (omega arith) (l .inv .1) (omega arith) (c .without-lowest .ensures)
 
 loop-again : tie.Need-loop-again Inv-loop μ-loop
 loop-again c =

@@ -1,49 +1,97 @@
--- `solution::fill_rows` meets its contract. The loop's invariant: the rows hold the spare ranks passed, each where its
--- edge covers. The measure is how many are left. Assumes nothing.
+-- `solution::fill_rows` meets its contract. The loop's invariant: the rows hold the spare ranks passed, each where it
+-- undercuts; no tree rank from the limit up costs more than a spare rank that is left. The measure is how many are left.
+-- Assumes nothing.
 use Prim.Native.Nat.{ℕ, _-_, _≤_, _<_}
 use mathlib.Core.Path.{_≡_, ap, _∙_}
-use mathlib.Core.Bool.{_&&_}
 use native.Mathlib.Omega.{arith}
-use lib.Dec.{ltb}
-use lib.ListN.{length, getD, length-replicate}
-use Rattle.sets.specs.Sets.{inRow}
-use Rattle.solution.specs.Asked.{covers}
-use Rattle.solution.specs.RowLaws.{rows-start, rows-turn}
+use lib.ListN.{length, length-replicate}
+use Rattle.solution.specs.Asked.{costAt}
+use Rattle.solution.specs.RowLaws.{limit-all, limit-cuts, Filled, rows-start, rows-turn, rows-end}
 use Rattle.solution.proofs.fill_rows.Statement.{statement}
 use Rattle.solution.proofs.fill_rows.Tie as tie
 
 abbrev Inv-loop : tie.InvT-loop
-Inv-loop q ss end1 end2 mask rows₀ s₀ rows s =
-    (s ≤ q) × (length rows ≡ 256)
-    × ((t′ s′ : ℕ) → s′ < 256 → inRow rows t′ s′ ≡ (ltb s′ s && covers end1 end2 mask (getD ss s′ 0) t′))
+Inv-loop trees q cost ts ss end1 end2 mask rows₀ limit₀ s₀ rows limit s =
+    (s ≤ q) × (limit ≤ trees) × (length rows ≡ 256)
+    × ((t′ s′ : ℕ) → limit ≤ t′ → t′ < trees → s ≤ s′ → s′ < q → costAt cost ts t′ ≤ costAt cost ss s′)
+    × Filled cost ts ss end1 end2 mask trees s rows
 
 abbrev μ-loop : tie.MeasureT-loop
-μ-loop q ss end1 end2 mask rows₀ s₀ rows s = q - s
+μ-loop trees q cost ts ss end1 end2 mask rows₀ limit₀ s₀ rows limit s = q - s
 
 loop-holds : tie.Need-loop-holds Inv-loop μ-loop
 loop-holds c =
     let a = c .args in
-    let empty = c .pre .1 .1 in
-    (omega arith, ap length empty ∙ length-replicate {A = ℕ} 256 0, λ t s _. rows-start (a .rows .now) empty _ t s)
+    let empty = c .pre .1 .1 .1 in (
+      omega arith,
+      omega arith,
+      ap length empty ∙ length-replicate {A = ℕ} 256 0,
+      λ t s h l. absurd (omega arith),
+      λ t s _ _. rows-start (a .rows .now) empty _ t s,
+    )
 
 mul-e : tie.Need-mul-e Inv-loop μ-loop
-mul-e c = omega arith
+mul-e c = omega (arith, c .before .before .pre .1 .0 .0 .most)
 
 element-copy-out-e : tie.Need-element-copy-out-e Inv-loop μ-loop
-element-copy-out-e c = omega arith
+element-copy-out-e c = omega (arith, c .before .before .pre .1 .0 .0 .most)
+
+cast-dearer : tie.Need-cast-dearer Inv-loop μ-loop
+cast-dearer c = omega (arith, c .before .before .before .pre .1 .0 .0 .edges (c .before .before .loop .s) (c .before .loop-test .taken))
+
+mul-dearer : tie.Need-mul-dearer Inv-loop μ-loop
+mul-dearer c = omega (arith, c .before .before .before .pre .1 .0 .0 .edges (c .before .before .loop .s) (c .before .loop-test .taken))
+
+element-copy-out-dearer : tie.Need-element-copy-out-dearer Inv-loop μ-loop
+element-copy-out-dearer c = c .before .before .before .pre .1 .0 .0 .edges (c .before .before .loop .s) (c .before .loop-test .taken)
+
+dearer-requires : tie.Need-dearer-requires Inv-loop μ-loop
+dearer-requires c κs =
+    let l = c .before .before .before in
+    let p = l .before .pre .0 in
+    let few = l .loop .inv .1 in (
+      record {
+        places = p .1 .places;
+        most = omega (arith, p .1 .most);
+        edges = λ k h. p .1 .edges k (omega arith);
+      },
+      λ k k′ h m. p .2 k k′ h (omega arith),
+    )
+
+returns : tie.Need-returns Inv-loop μ-loop
+returns c =
+    let d = c .before in
+    let l = d .before .before .before .before in
+    let a = l .before .args in (
+      rows-end (a .cost .now) (a .ts .now) (a .ss .now) (a .end1 .now) (a .end2 .now) (a .mask .now) (a .trees) (l .loop .rows)
+          (l .loop .s) (a .q) (l .loop .inv .0) (l .loop .inv .4)
+          (λ t s h m b. limit-cuts (a .cost .now) (a .ts .now) (a .ss .now) (a .trees) (a .q) (l .loop .limit) (d .dearer .result)
+          (l .loop .s) (omega arith) (d .dearer .ensures .0) (l .before .pre .1 .0 .1) (l .loop .inv .3) (d .dearer .ensures .1)
+          t s (omega arith) h m b),
+      l .loop .inv .2,
+    )
 
 covered-requires : tie.Need-covered-requires Inv-loop μ-loop
 covered-requires c κs =
-    let l = c .before .before in
-    let below = c .before .loop-test .taken in
-    let p = l .before .pre in
-    (p .0 .edges (l .loop .s) below, p .1 .0 .first (l .loop .s) below, p .1 .0 .second (l .loop .s) below)
+    let l = c .before .before .before .before .before in
+    let p = l .before .pre .1 in
+    let below : l .loop .s < l .before .args .q = omega arith in
+    (p .0 .0 .edges (l .loop .s) below, p .1 .0 .first (l .loop .s) below, p .1 .0 .second (l .loop .s) below)
+
+below-requires : tie.Need-below-requires Inv-loop μ-loop
+below-requires c κs =
+    let d = c .before .before in
+    let l = d .before .before .before .before in
+    omega (arith, d .dearer .ensures .0, l .loop .inv .1, l .before .pre .0 .0)
+
+both-requires : tie.Need-both-requires Inv-loop μ-loop
+both-requires c κs = tt
 
 cast-spare : tie.Need-cast-spare Inv-loop μ-loop
 cast-spare c = omega arith
 
 fill-requires : tie.Need-fill-requires Inv-loop μ-loop
-fill-requires c κs = (omega arith, c .before .before .before .before .loop .inv .1)
+fill-requires c κs = (omega arith, c .before .before .before .before .before .before .before .before .before .loop .inv .2)
 
 add-s : tie.Need-add-s Inv-loop μ-loop
 add-s c = omega arith
@@ -53,20 +101,35 @@ loop-less c = omega arith
 
 loop-again : tie.Need-loop-again Inv-loop μ-loop
 loop-again c =
-    let set = c .before .before in
-    let l = set .before .before .before in
-    let a = l .before .args in (
+    let b = c .before .before in
+    let w = b .before in
+    let v = w .before in
+    let d = v .before .before in
+    let l = d .before .before .before .before in
+    let a = l .before .args in
+    let here : l .loop .s < a .q = omega arith in (
       omega arith,
+      omega (arith, d .dearer .ensures .0, l .loop .inv .1),
       c .fill .ensures .1,
-      rows-turn (l .loop .rows) (c .fill .last .1 .1 .0) (a .ss .now) (a .end1 .now) (a .end2 .now) (a .mask .now) (l .loop .s)
-          (set .covered .result) (l .loop .inv .2) (set .covered .ensures) (c .fill .ensures .0),
+      λ t s h m k. limit-cuts (a .cost .now) (a .ts .now) (a .ss .now) (a .trees) (a .q) (l .loop .limit) (d .dearer .result)
+          (l .loop .s) here (d .dearer .ensures .0) (l .before .pre .1 .0 .1) (l .loop .inv .3) (d .dearer .ensures .1)
+          t s h m (omega arith),
+      rows-turn (a .cost .now) (a .ts .now) (a .ss .now) (a .end1 .now) (a .end2 .now) (a .mask .now) (a .trees) (l .loop .rows)
+          (c .fill .last .1 .1 .0) (l .loop .s) (v .covered .result) (w .below .result) (b .both .result) (d .dearer .result)
+          (l .loop .inv .4) (v .covered .ensures)
+          (limit-all (a .cost .now) (a .ts .now) (a .ss .now) (a .trees) (a .q) (l .loop .limit) (d .dearer .result)
+          (l .loop .s) here (d .dearer .ensures .0) (l .before .pre .1 .0 .1) (l .loop .inv .3) (d .dearer .ensures .1))
+          (w .below .ensures) (b .both .ensures) (c .fill .ensures .0),
     )
 
-returns : tie.Need-returns Inv-loop μ-loop
-returns c =
+returns-2 : tie.Need-returns-2 Inv-loop μ-loop
+returns-2 c =
     let l = c .before in
-    let all : l .loop .s ≡ l .before .args .q = omega arith in
-    (rw all at (l .loop .inv .2), l .loop .inv .1)
+    let a = l .before .args in (
+      rows-end (a .cost .now) (a .ts .now) (a .ss .now) (a .end1 .now) (a .end2 .now) (a .mask .now) (a .trees) (l .loop .rows)
+          (l .loop .s) (a .q) (l .loop .inv .0) (l .loop .inv .4) (λ t s h m b. absurd (omega arith)),
+      l .loop .inv .2,
+    )
 
 pub fill-rows-spec : {M : Type 1} → statement M
 fill-rows-spec =
@@ -77,10 +140,17 @@ fill-rows-spec =
     loop-holds
     mul-e
     element-copy-out-e
+    cast-dearer
+    mul-dearer
+    element-copy-out-dearer
+    dearer-requires
+    returns
     covered-requires
+    below-requires
+    both-requires
     cast-spare
     fill-requires
     add-s
     loop-less
     loop-again
-    returns)
+    returns-2)

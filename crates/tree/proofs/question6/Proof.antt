@@ -2,7 +2,7 @@
 use mathlib.Core.Path.{refl, sym}
 use borrow.Author.Tests.{eqb-true}
 use Rattle.loops.specs.TestLaws.{clash}
-use Rattle.tree.specs.SweepLaws.{tree-missed, tree-found}
+use Rattle.tree.specs.RootLaws.{tree-missed, tree-found}
 use borrow.Author.Needs.{needs}
 use Rattle.tree.proofs.question6.Statement.{statement}
 use Rattle.tree.proofs.question6.Tie as tie

@@ -1,35 +1,69 @@
 -- `tree::root_paths` meets its contract. The loop's invariant: the model, run for the rounds that are left, gives what it gives
 -- from the start. The measure is how many rounds are left. Assumes nothing.
+use Prim.Native.Nat.{_<_}
 use native.Mathlib.Omega.{arith}
-use Rattle.tree.specs.SweepLaws.{Rounds, rounds-start, rounds-last, rounds-more, rounds-end, ranked-most}
+use Rattle.tree.specs.Arrays.{Adjacency}
+use Rattle.tree.specs.AdjacencyLaws.{adjacency-start}
+use Rattle.tree.specs.WordLaws.{lowest-below}
+use Rattle.tree.specs.ExpandLaws.{word-named}
+use Rattle.tree.specs.RootLaws.{Rounds, rounds-start, rounds-last, rounds-more, rounds-end, ranked-most}
 use Rattle.tree.proofs.root_paths.Statement.{statement}
 use Rattle.tree.proofs.root_paths.Tie as tie
 
 abbrev Inv-loop : tie.InvT-loop
-Inv-loop nodes ranks count end1 end2 mask₀ front₀ rounds₀ mask front rounds = Rounds nodes count ranks end1 end2 rounds front mask
+Inv-loop nodes ranks count end1 end2 mask₀ adj front₀ done₀ rounds₀ mask front done rounds =
+    Adjacency count ranks end1 end2 adj × Rounds nodes count ranks end1 end2 rounds front done mask
 
 abbrev μ-loop : tie.MeasureT-loop
-μ-loop nodes ranks count end1 end2 mask₀ front₀ rounds₀ mask front rounds = rounds
+μ-loop nodes ranks count end1 end2 mask₀ adj front₀ done₀ rounds₀ mask front done rounds = rounds
+
+-- the lowest node that waits
+node-below : (c : tie.After-lowest Inv-loop μ-loop) → c .lowest .result < 64
+node-below c = lowest-below (c .before .before .less .result) (omega arith) (omega arith) (c .lowest .result) (c .lowest .ensures)
+
+adjacency-requires : tie.Need-adjacency-requires Inv-loop μ-loop
+adjacency-requires c κs = (ranked-most _ _ _ _ _ (c .before .before .pre), adjacency-start _ _ _)
 
 loop-holds : tie.Need-loop-holds Inv-loop μ-loop
 loop-holds c =
-    let a = c .before .args in
-    rounds-start (a .nodes) (a .count) (a .ranks .now) (a .end1 .now) (a .end2 .now)
+    let a = c .before .before .before .args in
+    (c .adjacency .ensures, rounds-start (a .nodes) (a .count) (a .ranks .now) (a .end1 .now) (a .end2 .now))
 
-sweep-requires : tie.Need-sweep-requires Inv-loop μ-loop
-sweep-requires c κs =
-    let l = c .before .before .loop in
-    let s = c .before .before .before .before in
-    (ranked-most _ _ _ _ _ (s .pre), (omega (arith, l .inv .few, s .pre .small), l .inv .places))
+less-requires : tie.Need-less-requires Inv-loop μ-loop
+less-requires c κs = omega arith
 
 returns : tie.Need-returns Inv-loop μ-loop
 returns c =
-    let w = c .before .before .before in
-    let l = w .before .before .before .loop in
-    let s = w .before .before .before .before .before in
-    let a = s .args in
-    rounds-last (a .nodes) (a .count) (a .ranks .now) (a .end1 .now) (a .end2 .now) (l .rounds) (l .front) (l .mask) (l .inv)
-    (w .before .before .loop-test .taken) (w .sweep .result) _ (w .sweep .ensures .0) (w .sweep .ensures .1) (c .if1 .taken)
+    let w = c .before in
+    let l = w .before .before .loop in
+    let a = w .before .before .before .before .before .before .args in
+    rounds-last (a .nodes) (a .count) (a .ranks .now) (a .end1 .now) (a .end2 .now) (l .rounds) (l .front) (l .done) (l .mask) (l .inv .1)
+    (w .before .loop-test .taken) (w .less .result) (w .less .ensures) (c .if1 .taken)
+
+lowest-requires : tie.Need-lowest-requires Inv-loop μ-loop
+lowest-requires c κs = omega arith
+
+cast-expand : tie.Need-cast-expand Inv-loop μ-loop
+cast-expand c = omega (arith, node-below c)
+
+mul-expand : tie.Need-mul-expand Inv-loop μ-loop
+mul-expand c = omega (arith, node-below c)
+
+array-read-expand : tie.Need-array-read-expand Inv-loop μ-loop
+array-read-expand c = node-below c
+
+expand-requires : tie.Need-expand-requires Inv-loop μ-loop
+expand-requires c κs =
+    let e = c .before in
+    let l = e .before .before .before .before .loop in
+    let s = e .before .before .before .before .before .before .before .before in (
+      word-named (s .args .count) (s .args .ranks .now) (s .args .end1 .now) (s .args .end2 .now) _ (s .pre .few) (s .pre .within) (l .inv .0)
+          (s .args .nodes) (s .pre) (e .lowest .result),
+      (omega (arith, l .inv .1 .few, s .pre .small), l .inv .1 .places),
+    )
+
+with-requires : tie.Need-with-requires Inv-loop μ-loop
+with-requires c κs = node-below (c .before .before)
 
 sub-rounds : tie.Need-sub-rounds Inv-loop μ-loop
 sub-rounds c = omega arith
@@ -39,19 +73,23 @@ loop-less c = omega arith
 
 loop-again : tie.Need-loop-again Inv-loop μ-loop
 loop-again c =
-    let w = c .before .before .before in
-    let l = w .before .before .before .loop in
-    let s = w .before .before .before .before .before in
-    let a = s .args in
-    rounds-more (a .nodes) (a .count) (a .ranks .now) (a .end1 .now) (a .end2 .now) (l .rounds) (l .front) (l .mask) (l .inv)
-    (w .before .before .loop-test .taken) (w .sweep .result) _ (w .sweep .ensures .0) (w .sweep .ensures .1) (s .pre) (c .if1 .left)
+    let x = c .before in
+    let e = x .before .before in
+    let w = e .before .before in
+    let l = w .before .before .loop in
+    let s = w .before .before .before .before .before .before in
+    let a = s .args in (
+      l .inv .0,
+      rounds-more (a .nodes) (a .count) (a .ranks .now) (a .end1 .now) (a .end2 .now) (l .rounds) (l .front) (l .done) (l .mask) (l .inv .1)
+          (w .before .loop-test .taken) (w .less .result) (w .less .ensures) (omega arith) (omega arith) (e .lowest .result) (e .lowest .ensures)
+          (s .pre) _ (l .inv .0) (x .expand .result) (c .with .result) _ (x .expand .ensures .0) (x .expand .ensures .1) (c .with .ensures),
+    )
 
 returns-2 : tie.Need-returns-2 Inv-loop μ-loop
 returns-2 c =
     let l = c .before .loop in
-    let s = c .before .before .before in
-    let a = s .args in
-    rounds-end (a .nodes) (a .count) (a .ranks .now) (a .end1 .now) (a .end2 .now) (l .rounds) (l .front) (l .mask) (l .inv) (c .loop-test .left)
+    let a = c .before .before .before .before .before .args in
+    rounds-end (a .nodes) (a .count) (a .ranks .now) (a .end1 .now) (a .end2 .now) (l .rounds) (l .front) (l .done) (l .mask) (l .inv .1) (c .loop-test .left)
 
 pub root-paths-spec : {M : Type 1} → statement M
 root-paths-spec =
@@ -59,9 +97,16 @@ root-paths-spec =
     (tie.spec
     Inv-loop
     μ-loop
+    adjacency-requires
     loop-holds
-    sweep-requires
+    less-requires
     returns
+    lowest-requires
+    cast-expand
+    mul-expand
+    array-read-expand
+    expand-requires
+    with-requires
     sub-rounds
     loop-less
     loop-again

@@ -9,7 +9,8 @@ use lib.ListN.{getD}
 use borrow.Author.Tests.{le-leb, lt-leb}
 use Rattle.loops.specs.Loop.{first}
 use Rattle.bits.specs.Bit.{bit}
-use Rattle.tree.specs.JudgeLaws.{wordHolds, lowest-below, lowest-set, word-miss, word-part, word-less, word-turn, word-end, word-across}
+use Rattle.tree.specs.WordLaws.{lowest-below, lowest-set, word-part, word-less}
+use Rattle.tree.specs.JudgeLaws.{wordHolds, word-miss, word-turn, word-end, word-across}
 use Rattle.tree.proofs.spare_holds.Statement.{statement}
 use Rattle.tree.proofs.spare_holds.Tie as tie
 

@@ -15,16 +15,16 @@ costs-size-requires c κs = search needs
 add-result : tie.Need-add-result
 add-result c = omega (arith, c .costs-size .ensures .1, c .before .size .ensures, encode-size-most 3 (c .before .before .args .steps))
 
-cast-size : tie.Need-cast-size
-cast-size c = search needs
+cast-size-short : tie.Need-cast-size-short
+cast-size-short c = search needs
 
-size-requires-2 : tie.Need-size-requires-2
-size-requires-2 c κs = search needs
+size-short-requires : tie.Need-size-short-requires
+size-short-requires c κs = search needs
 
 add-result-2 : tie.Need-add-result-2
 add-result-2 c =
     let a = c .before .before .before .args in
-    omega (arith, c .size2 .ensures, c .before .costs-size .ensures .1, c .before .before .size .ensures, encode-size-most 3 (a .steps), encode-size-most 2 (a .count))
+    omega (arith, c .size-short .ensures, c .before .costs-size .ensures .1, c .before .before .size .ensures, encode-size-most 3 (a .steps), encode-size-most 2 (a .count))
 
 pairs-size-requires : tie.Need-pairs-size-requires
 pairs-size-requires c κs = search needs
@@ -32,12 +32,12 @@ pairs-size-requires c κs = search needs
 add-result-3 : tie.Need-add-result-3
 add-result-3 c =
     let a = c .before .before .before .before .args in
-    omega (arith, c .pairs-size .ensures .1, c .before .size2 .ensures, c .before .before .costs-size .ensures .1, c .before .before .before .size .ensures, encode-size-most 3 (a .steps), encode-size-most 2 (a .count))
+    omega (arith, c .pairs-size .ensures .1, c .before .size-short .ensures, c .before .before .costs-size .ensures .1, c .before .before .before .size .ensures, encode-size-most 3 (a .steps), encode-size-most 2 (a .count))
 
 returns : tie.Need-returns
 returns c =
     let a = c .before .before .before .before .args in
-    omega (arith, c .pairs-size .ensures .0, c .before .size2 .ensures, c .before .before .costs-size .ensures .0, c .before .before .before .size .ensures, answer-length (a .steps) (a .edges) (a .costs .now) (a .count) (a .pair-tree .now) (a .pair-spare .now))
+    omega (arith, c .pairs-size .ensures .0, c .before .size-short .ensures, c .before .before .costs-size .ensures .0, c .before .before .before .size .ensures, answer-length (a .steps) (a .edges) (a .costs .now) (a .count) (a .pair-tree .now) (a .pair-spare .now))
 
 pub answer-size-spec : {M : Type 1} → statement M
 answer-size-spec =
@@ -46,8 +46,8 @@ answer-size-spec =
     size-requires
     costs-size-requires
     add-result
-    cast-size
-    size-requires-2
+    cast-size-short
+    size-short-requires
     add-result-2
     pairs-size-requires
     add-result-3

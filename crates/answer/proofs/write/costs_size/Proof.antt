@@ -22,20 +22,20 @@ loop-holds : tie.Need-loop-holds Inv-loop μ-loop
 unfolding gather flatMap
 loop-holds c = (omega arith, refl)
 
-mul-size : tie.Need-mul-size Inv-loop μ-loop
-mul-size c = omega arith
+mul-size-short : tie.Need-mul-size-short Inv-loop μ-loop
+mul-size-short c = omega arith
 
-element-copy-out-size : tie.Need-element-copy-out-size Inv-loop μ-loop
-element-copy-out-size c = omega arith
+element-copy-out-size-short : tie.Need-element-copy-out-size-short Inv-loop μ-loop
+element-copy-out-size-short c = omega arith
 
-size-requires : tie.Need-size-requires Inv-loop μ-loop
-size-requires c κs = search needs
+size-short-requires : tie.Need-size-short-requires Inv-loop μ-loop
+size-short-requires c κs = search needs
 
 add-size : tie.Need-add-size Inv-loop μ-loop
 add-size c =
     let l = c .before .before .before in
     let cs = l .before .args .costs .now in
-    omega (arith, c .size .ensures, costs-size-more cs (l .loop .e), costs-short cs (l .loop .e + 1))
+    omega (arith, c .size-short .ensures, costs-size-more cs (l .loop .e), costs-short cs (l .loop .e + 1))
 
 add-e : tie.Need-add-e Inv-loop μ-loop
 add-e c = omega arith
@@ -46,7 +46,7 @@ loop-less c = omega arith
 loop-again : tie.Need-loop-again Inv-loop μ-loop
 loop-again c =
     let l = c .before .before .before in
-    (omega arith, omega (arith, c .size .ensures, costs-size-more (l .before .args .costs .now) (l .loop .e)))
+    (omega arith, omega (arith, c .size-short .ensures, costs-size-more (l .before .args .costs .now) (l .loop .e)))
 
 returns : tie.Need-returns Inv-loop μ-loop
 returns c =
@@ -62,9 +62,9 @@ costs-size-spec =
     Inv-loop
     μ-loop
     loop-holds
-    mul-size
-    element-copy-out-size
-    size-requires
+    mul-size-short
+    element-copy-out-size-short
+    size-short-requires
     add-size
     add-e
     loop-less

@@ -23,35 +23,35 @@ loop-holds : tie.Need-loop-holds Inv-loop μ-loop
 unfolding gather flatMap
 loop-holds c = (omega arith, refl)
 
-mul-size : tie.Need-mul-size Inv-loop μ-loop
-mul-size c = omega arith
+mul-size-short : tie.Need-mul-size-short Inv-loop μ-loop
+mul-size-short c = omega arith
 
-element-copy-out-size : tie.Need-element-copy-out-size Inv-loop μ-loop
-element-copy-out-size c = omega arith
+element-copy-out-size-short : tie.Need-element-copy-out-size-short Inv-loop μ-loop
+element-copy-out-size-short c = omega arith
 
-size-requires : tie.Need-size-requires Inv-loop μ-loop
-size-requires c κs = search needs
+size-short-requires : tie.Need-size-short-requires Inv-loop μ-loop
+size-short-requires c κs = search needs
 
-mul-size-2 : tie.Need-mul-size-2 Inv-loop μ-loop
-mul-size-2 c = omega arith
+mul-size-short-2 : tie.Need-mul-size-short-2 Inv-loop μ-loop
+mul-size-short-2 c = omega arith
 
-element-copy-out-size-2 : tie.Need-element-copy-out-size-2 Inv-loop μ-loop
-element-copy-out-size-2 c = omega arith
+element-copy-out-size-short-2 : tie.Need-element-copy-out-size-short-2 Inv-loop μ-loop
+element-copy-out-size-short-2 c = omega arith
 
-size-requires-2 : tie.Need-size-requires-2 Inv-loop μ-loop
-size-requires-2 c κs = search needs
+size-short-requires-2 : tie.Need-size-short-requires-2 Inv-loop μ-loop
+size-short-requires-2 c κs = search needs
 
 add-size : tie.Need-add-size Inv-loop μ-loop
 add-size c =
     let l = c .before .before .before .before .before in
     let a = l .before .args in
-    omega (arith, c .size2 .ensures, c .before .before .size .ensures, encode-size-most 2 (getD (a .pair-tree .now) (l .loop .i) 0), encode-size-most 2 (getD (a .pair-spare .now) (l .loop .i) 0))
+    omega (arith, c .size-short2 .ensures, c .before .before .size-short .ensures, encode-size-most 2 (getD (a .pair-tree .now) (l .loop .i) 0), encode-size-most 2 (getD (a .pair-spare .now) (l .loop .i) 0))
 
 add-size-2 : tie.Need-add-size-2 Inv-loop μ-loop
 add-size-2 c =
     let l = c .before .before .before .before .before in
     let a = l .before .args in
-    omega (arith, c .size2 .ensures, c .before .before .size .ensures, pairs-size-more (a .pair-tree .now) (a .pair-spare .now) (l .loop .i), pairs-short (a .pair-tree .now) (a .pair-spare .now) (l .loop .i + 1))
+    omega (arith, c .size-short2 .ensures, c .before .before .size-short .ensures, pairs-size-more (a .pair-tree .now) (a .pair-spare .now) (l .loop .i), pairs-short (a .pair-tree .now) (a .pair-spare .now) (l .loop .i + 1))
 
 add-i : tie.Need-add-i Inv-loop μ-loop
 add-i c = omega arith
@@ -63,7 +63,7 @@ loop-again : tie.Need-loop-again Inv-loop μ-loop
 loop-again c =
     let l = c .before .before .before .before .before in
     let a = l .before .args in
-    (omega arith, omega (arith, c .size2 .ensures, c .before .before .size .ensures, pairs-size-more (a .pair-tree .now) (a .pair-spare .now) (l .loop .i)))
+    (omega arith, omega (arith, c .size-short2 .ensures, c .before .before .size-short .ensures, pairs-size-more (a .pair-tree .now) (a .pair-spare .now) (l .loop .i)))
 
 returns : tie.Need-returns Inv-loop μ-loop
 returns c =
@@ -79,12 +79,12 @@ pairs-size-spec =
     Inv-loop
     μ-loop
     loop-holds
-    mul-size
-    element-copy-out-size
-    size-requires
-    mul-size-2
-    element-copy-out-size-2
-    size-requires-2
+    mul-size-short
+    element-copy-out-size-short
+    size-short-requires
+    mul-size-short-2
+    element-copy-out-size-short-2
+    size-short-requires-2
     add-size
     add-size-2
     add-i

@@ -6,8 +6,8 @@ use native.Mathlib.Omega.{arith}
 use borrow.Author.Needs.{needs}
 use lib.ListN.{length}
 use Rattle.frame.specs.Questions.{numbers}
-use Rattle.job.specs.Reading.{countFrom}
-use Rattle.job.specs.ReadingLaws.{Counting, count-start, count-turn, count-refused, count-end, read-further}
+use Rattle.job.specs.Reading.{countFrom, Counting}
+use Rattle.job.specs.ReadingLaws.{count-turn, count-refused, count-end, read-further}
 use Rattle.job.proofs.read.count_numbers.Statement.{statement}
 use Rattle.job.proofs.read.count_numbers.Tie as tie
 
@@ -17,8 +17,11 @@ Inv-loop frame at₀ count₀ at count = Counting frame at count (countFrom 0 (n
 abbrev μ-loop : tie.MeasureT-loop
 μ-loop frame at₀ count₀ at count = length frame - at
 
+count-blocks-requires : tie.Need-count-blocks-requires Inv-loop μ-loop
+count-blocks-requires c κs = search needs
+
 loop-holds : tie.Need-loop-holds Inv-loop μ-loop
-loop-holds c = count-start _
+loop-holds c = c .count-blocks .ensures
 
 read-short-requires : tie.Need-read-short-requires Inv-loop μ-loop
 read-short-requires c κs = search needs
@@ -36,7 +39,7 @@ returns c =
     count-refused _ (l .loop .at) (l .loop .count) _ (l .loop .inv) (r .before .loop-test .taken) (sym (r .read-short .ensures) ∙ c .enum-told .given .1)
 
 -- the invariant behind the number that was read
-turned : (c : tie.After-known-told Inv-loop μ-loop) → Counting (c .before .before .before .before .before .before .before .args .frame .now) (c .before .n .given .0 .1 .0) (c .before .before .before .before .before .loop .count + 1) (countFrom 0 (numbers (c .before .before .before .before .before .before .before .args .frame .now)))
+turned : (c : tie.After-known-told Inv-loop μ-loop) → Counting (c .before .before .before .before .before .before .before .before .args .frame .now) (c .before .n .given .0 .1 .0) (c .before .before .before .before .before .loop .count + 1) (countFrom 0 (numbers (c .before .before .before .before .before .before .before .before .args .frame .now)))
 turned c =
     let r = c .before .before .before in
     let l = r .before .before in
@@ -64,6 +67,7 @@ count-numbers-spec =
     (tie.spec
     Inv-loop
     μ-loop
+    count-blocks-requires
     loop-holds
     read-short-requires
     enum-known-n

@@ -1,14 +1,12 @@
 -- `job::read::marks_hold` meets its contract. The loop's invariant: the question holds of the links passed. Assumes nothing.
 use Prim.Native.Nat.{_-_, _≤_}
-use mathlib.Core.Path.{_≡_, refl, sym}
+use mathlib.Core.Path.{_≡_, sym}
 use mathlib.Core.Bool.{true}
 use native.Mathlib.Omega.{arith}
-use Rattle.loops.specs.Loop.{allBelow}
-use Rattle.loops.specs.TestLaws.{all-miss, all-more}
-use lib.ListN.{getD}
-use lib.Dec.{leb}
+use borrow.Author.Needs.{needs}
 use borrow.Author.Tests.{le-leb, lt-leb}
-use Rattle.job.specs.Reading.{marksHold}
+use Rattle.loops.specs.TestLaws.{all-miss, all-more}
+use Rattle.job.specs.Reading.{markedAt, marksHold}
 use Rattle.job.proofs.read.marks_hold.Statement.{statement}
 use Rattle.job.proofs.read.marks_hold.Tie as tie
 
@@ -18,9 +16,11 @@ Inv-loop edges mark e₀ e = (e ≤ edges) × (marksHold e mark ≡ true)
 abbrev μ-loop : tie.MeasureT-loop
 μ-loop edges mark e₀ e = edges - e
 
+pass-marks-requires : tie.Need-pass-marks-requires Inv-loop μ-loop
+pass-marks-requires c κs = search needs
+
 loop-holds : tie.Need-loop-holds Inv-loop μ-loop
-unfolding allBelow
-loop-holds c = (omega arith, refl)
+loop-holds c = c .pass-marks .ensures
 
 mul-m : tie.Need-mul-m Inv-loop μ-loop
 mul-m c = omega arith
@@ -32,8 +32,8 @@ returns : tie.Need-returns Inv-loop μ-loop
 returns c =
     let k = c .before .before in
     let l = k .before in
-    let a = l .before .args in
-    sym (all-miss (a .edges) (λ e. leb (getD (a .mark .now) e 0) 1) (l .loop .e) (k .loop-test .taken) (lt-leb _ 1 (c .if1 .taken)))
+    let a = l .before .before .args in
+    sym (all-miss (a .edges) (markedAt (a .mark .now)) (l .loop .e) (k .loop-test .taken) (lt-leb _ 1 (c .if1 .taken)))
 
 add-e : tie.Need-add-e Inv-loop μ-loop
 add-e c = omega arith
@@ -43,15 +43,12 @@ loop-less c = omega arith
 
 loop-again : tie.Need-loop-again Inv-loop μ-loop
 loop-again c =
-    let k = c .before .before in
-    let l = k .before in
-    let a = l .before .args in
-    (omega arith, all-more (l .loop .e) (λ e. leb (getD (a .mark .now) e 0) 1) (l .loop .inv .1) (le-leb _ 1 (c .if1 .left)))
+    let l = c .before .before .before in
+    (omega arith, all-more (l .loop .e) (markedAt (l .before .before .args .mark .now)) (l .loop .inv .1) (le-leb _ 1 (c .if1 .left)))
 
 returns-2 : tie.Need-returns-2 Inv-loop μ-loop
 returns-2 c =
-    let a = c .before .before .args in
-    let all : c .before .loop .e ≡ a .edges = omega arith in
+    let all : c .before .loop .e ≡ c .before .before .before .args .edges = omega arith in
     sym (rw all at (c .before .loop .inv .1))
 
 pub marks-hold-spec : {M : Type 1} → statement M
@@ -60,6 +57,7 @@ marks-hold-spec =
     (tie.spec
     Inv-loop
     μ-loop
+    pass-marks-requires
     loop-holds
     mul-m
     element-copy-out-m

@@ -10,7 +10,7 @@ use lib.Seq.{take-all}
 use Rattle.frame.specs.Questions.{jobOf, question4, question5}
 use Rattle.job.specs.declared.read.Header.{Header}
 use Rattle.job.specs.Reading.{Loaded, arrays, filled, endsHold, marksHold}
-use Rattle.job.specs.FormLaws.{Passed, counts-passed, counts-refused, links-read, ends-read, marks-read, ends-refused, marks-refused, form-passed}
+use Rattle.job.specs.FormLaws.{Passed, counts-passed, counts-refused, links-left, links-read, ends-read, marks-read, ends-refused, marks-refused, form-passed}
 use Rattle.job.proofs.read.read_job.Statement.{statement}
 use Rattle.job.proofs.read.read_job.Tie as tie
 
@@ -18,6 +18,17 @@ use Rattle.job.proofs.read.read_job.Tie as tie
 passing : (k : tie.Else1) → Passed (k .before .before .before .args .frame .now) (k .before .read-counts .result)
 passing k =
     counts-passed _ (λ i. k .before .before .shared-slice-known .given i .fits) (k .before .read-counts .result) (k .before .read-counts .ensures) (k .if1 .left)
+
+-- the part lent to the reader of links is the frame behind the two counts
+behind-counts :
+    (k : tie.Else1) →
+    let s = k .before .before .before .args .frame .now in
+    let from = k .before .read-counts .result .behind in
+    take (length s - from) (drop from s) ≡ drop from s
+behind-counts k =
+    let s = k .before .before .before .args .frame .now in
+    let from = k .before .read-counts .result .behind in
+    take-all (length s - from) (drop from s) (omega (arith, length-drop from s))
 
 -- the links are in their arrays
 loaded :
@@ -28,10 +39,8 @@ loaded :
 loaded k =
     let e = k .before .before .before .before .before .before .before in
     let a = e .before .before .before .args in
-    let from = e .before .read-counts .result .behind in
     ap (λ (l : Loaded). arrays 0 (l .end₁) (l .end₂) (l .cost) (l .mark))
-    (k .read-links .ensures ∙ links-read (a .frame .now) (e .before .read-counts .result) (passing e) (take (length (a .frame .now) - from) (drop from (a .frame .now)))
-    (take-all (length (a .frame .now) - from) (drop from (a .frame .now)) (omega (arith, length-drop from (a .frame .now))))
+    (k .read-links .ensures ∙ links-read (a .frame .now) (e .before .read-counts .result) (passing e) _ (behind-counts e)
     (arrays 0 (a .end1 .now) (a .end2 .now) (a .cost .now) (a .mark .now)) refl)
 
 -- question 4, as it was put over the arrays
@@ -90,7 +99,9 @@ cast-edges : tie.Need-cast-edges
 cast-edges c = search needs
 
 read-links-requires : tie.Need-read-links-requires
-read-links-requires c κs = passing (c .before .before .before .before .before .before) .limit
+read-links-requires c κs =
+    let e = c .before .before .before .before .before .before in
+    (passing e .limit, links-left _ _ (passing e) _ (behind-counts e))
 
 ends-hold-requires : tie.Need-ends-hold-requires
 ends-hold-requires c κs = passing (c .before .before .before .before .before .before .before .before .before) .limit

@@ -9,7 +9,7 @@ use Rattle.job.specs.declared.read.Header.{Header}
 use Rattle.job.specs.Reading.{arrays, filled}
 use Rattle.service.specs.Accepting.{Empty}
 use Rattle.service.specs.AcceptLaws.{form-number, accept-refused, header-nodes, header-edges, few-edges, tree-refused, tree-accepted}
-use Rattle.service.specs.ArrayLaws.{Stored, stored, empty-places, count-few, count-wrong, tree-ranked, tree-answer, tree-held}
+use Rattle.service.specs.ArrayLaws.{Stored, stored, empty-places, costs-small, count-few, count-wrong, tree-ranked, tree-answer, tree-held}
 use borrow.Author.Needs.{needs}
 use Rattle.service.proofs.accept.accept.Statement.{statement}
 use Rattle.service.proofs.accept.accept.Tie as tie
@@ -61,7 +61,7 @@ tree-ranks-requires c κs =
     let r = k .before in
     let a = r .before .before .before .before .before .before .args in
     let l = r .read-job .last .1 in
-    (few-edges (a .frame .now) (r .read-job .result) (r .read-job .ensures .0) (bytes k) (k .if1 .left), start k .ranks)
+    (few-edges (a .frame .now) (r .read-job .result) (r .read-job .ensures .0) (bytes k) (k .if1 .left), start k .ranks, costs-small (jobOf (a .frame .now)) (l .0) (l .1 .0) (l .1 .1 .0) (l .1 .1 .1 .0) (kept k) (r .read-job .result .edges))
 
 add-if2 : tie.Need-add-if2
 add-if2 c =

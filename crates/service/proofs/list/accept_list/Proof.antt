@@ -7,7 +7,7 @@ use Rattle.frame.specs.Questions.{question6}
 use Rattle.frame.specs.Services.{listFormRefusal}
 use Rattle.job.specs.Writing.{jobAt}
 use Rattle.job.specs.WritingLaws.{rows-length}
-use Rattle.service.specs.ArrayLaws.{Stored, count-few, count-wrong, tree-ranked, tree-answer, tree-held}
+use Rattle.service.specs.ArrayLaws.{Stored, costs-small, count-few, count-wrong, tree-ranked, tree-answer, tree-held}
 use Rattle.service.specs.ListLaws.{list-form-refused, list-tree, list-stored, list-few}
 use borrow.Author.Needs.{needs}
 use Rattle.service.proofs.list.accept_list.Statement.{statement}
@@ -33,7 +33,7 @@ tree-ranks-requires : tie.Need-tree-ranks-requires
 tree-ranks-requires c κs =
     let k = c .before in
     let a = k .before .before .args in
-    (list-few (a .nodes) (a .edges) (a .end1 .now) (a .end2 .now) (a .cost .now) (a .mark .now) (k .before .before .pre .0) (good k), k .before .before .pre .1)
+    (list-few (a .nodes) (a .edges) (a .end1 .now) (a .end2 .now) (a .cost .now) (a .mark .now) (k .before .before .pre .0) (good k), k .before .before .pre .1, costs-small (jobAt (a .nodes) (a .edges) (a .end1 .now) (a .end2 .now) (a .cost .now) (a .mark .now)) (a .end1 .now) (a .end2 .now) (a .cost .now) (a .mark .now) (kept k) (a .edges))
 
 add-if2 : tie.Need-add-if2
 add-if2 c =

@@ -27,7 +27,7 @@ cast-edges c = search needs
 
 solve-requires : tie.Need-solve-requires
 solve-requires c κs =
-    let e = c .before .before .before .before in
+    let e = c .before .before .before .before .before .before .before in
     let z = e .if1 .left in
     let (s, k) = e .before .before .pre z in
     record {
@@ -44,7 +44,7 @@ solve-requires c κs =
 write-answer-requires : tie.Need-write-answer-requires
 write-answer-requires c κs =
     let v = c .before .before .before .before in
-    let e = v .before .before .before .before .before in
+    let e = v .before .before .before .before .before .before .before .before in
     let z = e .if1 .left in
     let (s, k) = e .before .before .pre z in
     λ _. (few-links k z, v .solve .ensures .few)
@@ -56,7 +56,7 @@ returns-2 : tie.Need-returns-2
 returns-2 c =
     let w = c .before .before in
     let v = w .before .before .before .before .before in
-    let e = v .before .before .before .before .before in
+    let e = v .before .before .before .before .before .before .before .before in
     let a = e .before .before .args in
     let z = e .if1 .left in (
       λ s k.

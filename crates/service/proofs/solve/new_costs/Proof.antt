@@ -1,7 +1,7 @@
 -- `service::solve::new_costs` meets its contract: the labels are placed at the links of their ranks. Assumes nothing.
 use mathlib.Core.Path.{refl, ap, _∙_}
 use native.Mathlib.Omega.{arith}
-use lib.ListN.{length}
+use lib.ListN.{length, getD}
 use Rattle.service.specs.CostLaws.{costed}
 use Rattle.job.specs.Held.{zero-at, length-zeros}
 use borrow.Author.Needs.{needs}
@@ -19,13 +19,15 @@ label-requires c κs =
       few-spares = q .few-spares;
       tree-edges = q .tree-edges;
       spare-edges = q .spare-edges;
+      rising = q .rising;
       mates-length = q .mates-length;
       tree-length = refl;
-      spare-length = refl;
+      spare-length = ap length (q .unlabelled) ∙ length-zeros 256;
       below = q .below;
+      taken-length = q .taken-length;
       taken-are = q .taken-are;
       no-tree = λ t. zero-at 64 t;
-      no-spare = λ s. zero-at 256 s;
+      no-spare = λ s. ap (λ l. getD l s 0) (q .unlabelled) ∙ zero-at 256 s;
     }
 
 slice-aggregate-place : tie.Need-slice-aggregate-place
@@ -39,12 +41,9 @@ place-requires c κs =
       (omega (arith, q .few-trees, l .label .ensures .tree-length), ap length (q .empty) ∙ length-zeros 256),
     )
 
-slice-aggregate-place-2 : tie.Need-slice-aggregate-place-2
-slice-aggregate-place-2 c = search needs
-
 place-requires-2 : tie.Need-place-requires-2
 place-requires-2 c κs =
-    let p = c .before .before in
+    let p = c .before .before .before in
     let l = p .before .before .before in
     let q = l .before .before .before .before .pre in (
       record { places = q .spare-places; most = q .few-spares; edges = q .spare-edges },
@@ -53,7 +52,7 @@ place-requires-2 c κs =
 
 returns : tie.Need-returns
 returns c =
-    let p = c .before .before .before in
+    let p = c .before .before .before .before in
     let l = p .before .before .before in
     let st = l .before .before .before .before in
     let a = st .args in
@@ -68,6 +67,5 @@ new-costs-spec =
     label-requires
     slice-aggregate-place
     place-requires
-    slice-aggregate-place-2
     place-requires-2
     returns)

@@ -1,0 +1,18 @@
+-- `leb128::size_short` meets its contract: each return is a case of `encode`. Assumes nothing.
+use Prim.Native.Nat.{_/_}
+use native.Mathlib.Omega.{arith}
+use mathlib.Core.Path.{sym}
+use Rattle.leb128.specs.Laws.{encode-size-last, encode-size-more, encode-size-pos, encode-size-most}
+use Rattle.leb128.proofs.size_short.Statement.{statement}
+use Rattle.leb128.proofs.size_short.Tie as tie
+
+returns : tie.Need-returns
+returns c = sym (encode-size-last 1 (c .before .args .x) (c .if1 .taken))
+
+returns-2 : tie.Need-returns-2
+returns-2 c =
+    let x = c .before .args .x in
+    omega (arith, encode-size-more 1 x (omega (arith, c .if1 .left)), encode-size-pos 0 (x / 128), encode-size-most 1 (x / 128))
+
+pub size-short-spec : {M : Type 1} → statement M
+size-short-spec = tie.close (tie.spec returns returns-2)
