@@ -2,15 +2,14 @@
 -- Assumes nothing.
 use Prim.Native.Nat.{ℕ, zero, suc, _+_, _*_, _<_, _≤_}
 use native.Mathlib.Omega.{arith}
-use mathlib.Core.Path.{_≡_, refl, sym, ap, ap₂, subst, _∙_}
+use mathlib.Core.Path.{_≡_, refl, sym, ap, ap₂, _∙_}
 use mathlib.Core.Logic.{_⊎_, inl, inr}
-use mathlib.Core.Bool.{Bool, true, false, not, _&&_}
-use mathlib.Core.List.{List, [], _∷_, _++_, map, flatMap}
+use mathlib.Core.Bool.{true, false}
+use mathlib.Core.List.{List, _++_, map}
 use mathlib.Core.Option.{Option, some, none}
-use lib.Dec.{leb, ltb, eqb}
+use lib.Dec.{leb}
 use lib.ListN.{length, getD, take, drop, take-append-drop, length-append, length-drop, length-map, List·getD-append, List·getD-map}
 use lib.Seq.{sets, sets-eq, drop-append-seam, getD-drop}
-use Rattle.loops.specs.Loop.{allBelow}
 use Rattle.loops.specs.TestLaws.{truth, all-same}
 use Rattle.leb128.specs.Number.{Bytes, encode}
 use Rattle.frame.specs.Job.{Edge, Job, noEdge, link, numberBytes, bytesOf}
@@ -20,7 +19,6 @@ use Rattle.frame.specs.Division.{division}
 use Rattle.frame.specs.Form.{question2-means, question3-means}
 use Rattle.frame.specs.RoundTrip.{flatMap-append, length-links}
 use Rattle.job.specs.declared.read.Counts.{Counts}
-use Rattle.job.specs.declared.read.Header.{Header}
 use Rattle.job.specs.Reading.{Divided, Loaded, loadLinks, filled, firsts, seconds, marks, endsApart, endsHold, marksHold, countsOf, refusedCounts, header, headerOf}
 use Rattle.job.specs.LoadLaws.{load-all}
 

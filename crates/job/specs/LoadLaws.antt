@@ -2,15 +2,15 @@
 -- last one is the part's end. Assumes nothing.
 use Prim.Native.Nat.{ℕ, zero, suc, _+_, _*_, _<_, _≤_}
 use native.Mathlib.Omega.{arith}
-use mathlib.Core.Path.{_≡_, refl, sym, ap, subst, _∙_}
-use mathlib.Core.List.{List, [], _∷_, _++_, map, flatMap}
+use mathlib.Core.Path.{_≡_, refl, sym, ap, _∙_}
+use mathlib.Core.List.{List, [], _∷_, _++_, flatMap}
 use lib.ListN.{length, set, drop, length-append, length-drop}
-use lib.Seq.{sets, drop-drop, drop-append-seam}
+use lib.Seq.{drop-drop, drop-append-seam}
 use Rattle.loops.specs.Loop.{scan}
 use Rattle.leb128.specs.Number.{encode, decode, readAt, Stands}
 use Rattle.leb128.specs.declared.Number.the-variants as Read
 use Rattle.leb128.specs.Laws.{decode-encode, encode-size-pos}
-use Rattle.frame.specs.Job.{Edge, maxNumber, numberBytes, bytesOf}
+use Rattle.frame.specs.Job.{numberBytes, bytesOf}
 use Rattle.frame.specs.Questions.{linksOf}
 use Rattle.frame.specs.Meaning.{Divides}
 use Rattle.job.specs.declared.read.Taken.{Taken}

@@ -20,7 +20,7 @@ use Rattle.bits.specs.BitLaws.{bit-zero}
 use Rattle.sets.specs.Sets.{member}
 use Rattle.sets.specs.SetsLaws.{member-past}
 use Rattle.optimum.specs.Search.{Problem, Mates}
-use Rattle.optimum.specs.Lowest.{Labels, unlabelled, matched, labelTree, labelSpare, labelFrom, labels}
+use Rattle.optimum.specs.Lowest.{Labels, unlabelled, labelTree, labelSpare, labelFrom, labels}
 use Rattle.search.specs.State.{matesOf, Below, Suits}
 use Rattle.search.specs.ExploreSteps.{below-same}
 use Rattle.matching.specs.Progress.{costAt, Holds}

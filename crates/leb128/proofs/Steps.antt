@@ -11,7 +11,7 @@ use lib.ListN.{length, drop, getD, drop-of-length-le}
 use lib.Seq.{drop-cons}
 use borrow.Author.Tests.{lt-ltb, le-ltb}
 use Rattle.leb128.specs.Number.{Bytes, encode, extend, decode, located, readAt, Stands}
-use Rattle.leb128.specs.Number.Decoded.{number, none}
+use Rattle.leb128.specs.Number.Decoded.{number}
 use Rattle.leb128.specs.declared.Number.the-variants.{Value, Refused}
 use Rattle.leb128.specs.Laws.{bytes-drop, decode-bound, extend-zero, extend-more, located-value, located-refused}
 

@@ -1,32 +1,23 @@
 -- Questions 1 to 6 by the steps of the code: the form first, then the tree. Assumes nothing.
-use Prim.Native.Nat.{ℕ, zero, suc, _+_, _-_, _<_, _≤_}
+use Prim.Native.Nat.{ℕ, zero, suc, _-_, _≤_}
 use native.Mathlib.Omega.{arith}
-use mathlib.Core.Path.{_≡_, refl, sym, ap, ap₂, subst, _∙_}
+use mathlib.Core.Path.{_≡_, refl, sym, ap, _∙_}
 use mathlib.Core.Logic.{⊎-elim}
-use mathlib.Core.Bool.{Bool, true, false, _&&_}
+use mathlib.Core.Bool.{true, false}
 use mathlib.Core.List.{List}
-use lib.Dec.{ltb, eqb}
-use lib.ListN.{length, getD, take}
-use lib.Seq.{length-sets, sets}
-use borrow.Author.Tests.{eq-eqb, ne-eqb}
+use lib.Dec.{ltb}
+use lib.ListN.{length}
 use Rattle.loops.specs.TestLaws.{truth}
 use Rattle.leb128.specs.Number.{Bytes}
-use Rattle.graph.specs.Graph.{Graph}
-use Rattle.graph.specs.Rank.{treeRanks}
-use Rattle.graph.specs.RankLaws.{tree-lists}
-use Rattle.graph.specs.Paths.{isTree}
-use Rattle.frame.specs.Job.{Edge, Job, link, graphOf, treeOf, costOf}
-use Rattle.frame.specs.Questions.{numbers, jobFrom, jobOf, ask, question6, numberQuestions, question1, formRefusal, refusal}
+use Rattle.frame.specs.Job.{Job}
+use Rattle.frame.specs.Questions.{jobOf, ask, question6, numberQuestions, formRefusal, refusal}
 use Rattle.frame.specs.Division.{division}
-use Rattle.frame.specs.Form.{formed-pass, form-refusal, beforeTree}
+use Rattle.frame.specs.Form.{formed-pass, form-refusal}
 use Rattle.frame.specs.RoundTrip.{formed, job-of}
-use Rattle.tree.specs.Arrays.{arrayGraph, arrayTree, arrayCost, Ranked, Walked}
-use Rattle.ranks.specs.Keys.{treeList}
 use Rattle.job.specs.declared.read.Header.{Header}
-use Rattle.job.specs.Reading.{arrays, filled, header, headerOf}
-use Rattle.job.specs.Held.{zeros, held, length-zeros}
+use Rattle.job.specs.Reading.{header, headerOf}
 use Rattle.job.specs.JobRoundTrip.{links-few}
-use Rattle.service.specs.Accepting.{Empty, acceptedHeader, Held}
+use Rattle.service.specs.Accepting.{acceptedHeader}
 
 -- A frame refused by its form is refused by the same number.
 pub refused-form : (s : List ℕ) → (formRefusal s ≡ 0 → ⊥) → refusal s ≡ formRefusal s

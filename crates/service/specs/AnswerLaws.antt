@@ -1,5 +1,5 @@
 -- A reply by the definition is an answer in full or a refusal that wrote nothing. Assumes nothing.
-use Prim.Native.Nat.{ℕ, zero, suc, _+_, _<_, _≤_}
+use Prim.Native.Nat.{ℕ, zero, suc, _+_, _<_}
 use native.Mathlib.Decide.{decLe}
 use native.Mathlib.Omega.{arith}
 use mathlib.Core.Path.{_≡_, refl, sym, ap, subst, _∙_}
@@ -8,7 +8,6 @@ use mathlib.Core.List.{List, _++_}
 use lib.ListN.{length, take, drop}
 use lib.Seq.{take-at, drop-at}
 use Rattle.leb128.specs.Number.{Bytes}
-use Rattle.optimum.specs.Optimum.{Answer}
 use Rattle.frame.specs.Questions.{jobOf, refusal}
 use Rattle.frame.specs.Answers.{answerFrame, answerOf}
 use Rattle.frame.specs.Services.{Outcome, written, answered}
@@ -16,7 +15,7 @@ use Rattle.frame.specs.Form.{first-no}
 use Rattle.frame.specs.Accepted.{accepted}
 use Rattle.frame.specs.AnswerMeaning.{AnswerOf}
 use Rattle.frame.specs.OwnAnswer.{own, own-layout}
-use Rattle.frame.specs.Outcomes.{written-refused, written-short, written-done, refused-untouched, accepted-written}
+use Rattle.frame.specs.Outcomes.{written-short, written-done, refused-untouched, accepted-written}
 use Rattle.job.specs.declared.write.Reply.{Reply}
 use Rattle.job.specs.Writing.{outcome}
 use Rattle.service.specs.Answering.{Delivered, Answered}

@@ -1,16 +1,15 @@
 -- A job that was read into arrays of zeros: the arrays are its graph, its tree and its costs, and question 6 over them is
 -- the job's. Assumes nothing.
-use Prim.Native.Nat.{ℕ, zero, suc, _+_, _-_, _<_, _≤_}
+use Prim.Native.Nat.{ℕ, suc, _+_, _-_, _<_, _≤_}
 use native.Mathlib.Omega.{arith}
 use mathlib.Core.Path.{_≡_, refl, sym, ap, ap₂, subst, _∙_}
-use mathlib.Core.Bool.{Bool, true, false, _&&_}
+use mathlib.Core.Bool.{Bool, true, false}
 use mathlib.Core.List.{List}
 use lib.Dec.{leb, eqb}
 use lib.ListN.{length, getD, take}
 use lib.Seq.{length-sets, sets, getD-take}
 use borrow.Author.Tests.{ne-eqb}
 use Rattle.leb128.specs.Number.{Bytes}
-use Rattle.graph.specs.Graph.{Graph}
 use Rattle.graph.specs.CountLaws.{count-below}
 use Rattle.graph.specs.Rank.{sorted, members, treeRanks}
 use Rattle.graph.specs.RankLaws.{tree-lists}
@@ -20,10 +19,10 @@ use Rattle.frame.specs.Questions.{jobOf, question6, formRefusal}
 use Rattle.frame.specs.Meaning.{Small, EndsHold}
 use Rattle.frame.specs.RoundTrip.{formed, job-of, job-numbers}
 use Rattle.frame.specs.Accepted.{cost-small}
-use Rattle.tree.specs.Arrays.{arrayGraph, arrayTree, arrayCost, Ranked, Walked}
+use Rattle.tree.specs.Arrays.{arrayGraph, Ranked, Walked}
 use Rattle.ranks.specs.Keys.{treeList, SmallCosts}
 use Rattle.job.specs.Reading.{Loaded, arrays, filled, firsts, seconds, costs, marks, Places}
-use Rattle.job.specs.Held.{zeros, held, length-zeros}
+use Rattle.job.specs.Held.{held, length-zeros}
 use Rattle.job.specs.JobRoundTrip.{links-few}
 use Rattle.service.specs.Accepting.{Empty, Held}
 

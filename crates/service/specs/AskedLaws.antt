@@ -2,11 +2,10 @@
 -- Assumes nothing.
 use Prim.Native.Nat.{ℕ, _-_, _≤_}
 use native.Mathlib.Omega.{arith}
-use mathlib.Core.Path.{_≡_, refl, sym, ap, _∙_}
+use mathlib.Core.Path.{_≡_, refl, _∙_}
 use mathlib.Core.Bool.{Bool}
 use mathlib.Core.List.{List}
 use lib.ListN.{length, take}
-use Rattle.leb128.specs.Number.{Bytes}
 use Rattle.graph.specs.Paths.{rooted, judge}
 use Rattle.frame.specs.Job.{Job}
 use Rattle.frame.specs.Questions.{jobOf, refusal}

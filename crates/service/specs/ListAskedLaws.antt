@@ -5,11 +5,10 @@ use mathlib.Core.Path.{_≡_, sym, ap, subst, _∙_}
 use mathlib.Core.Logic.{_≢_}
 use mathlib.Core.Bool.{true, false}
 use mathlib.Core.List.{List, [], _∷_, flatMap}
-use lib.ListN.{length}
 use Rattle.leb128.specs.Number.{Bytes, encode}
 use Rattle.leb128.specs.Laws.{bytes-nil, bytes-append, encode-bytes}
 use Rattle.frame.specs.Job.{Job, numberBytes, bytesOf, jobNumbers, jobFrame}
-use Rattle.frame.specs.Questions.{jobOf, refusal}
+use Rattle.frame.specs.Questions.{refusal}
 use Rattle.frame.specs.Services.{small}
 use Rattle.frame.specs.Accepted.{read-write6}
 use Rattle.job.specs.declared.read.Header.{Header}

@@ -1,15 +1,15 @@
 -- A list of links in arrays: the arrays store its job, and question 6 comes behind questions 1 to 5. Assumes nothing.
-use Prim.Native.Nat.{ℕ, zero, suc, _<_, _≤_}
+use Prim.Native.Nat.{ℕ, _≤_}
 use native.Mathlib.Decide.{decLt}
 use native.Mathlib.Omega.{arith}
 use mathlib.Core.Path.{_≡_, refl, sym, ap, fun-ext, _∙_}
 use mathlib.Core.Bool.{Bool, true, false}
 use mathlib.Core.List.{List}
-use lib.ListN.{length, getD, List·getD-eq-default}
-use Rattle.loops.specs.GatherLaws.{length-tabulate, getD-tabulate}
+use lib.ListN.{getD, List·getD-eq-default}
+use Rattle.loops.specs.GatherLaws.{getD-tabulate}
 use Rattle.frame.specs.Job.{Edge, Job, noEdge, link}
 use Rattle.frame.specs.Questions.{ask, question4, question5, question6}
-use Rattle.frame.specs.Services.{small, counted, listQuestions, listFormRefusal, listRefusal}
+use Rattle.frame.specs.Services.{small, counted, listFormRefusal, listRefusal}
 use Rattle.frame.specs.Lists.{listed, list-passed, small-job, counted-limits}
 use Rattle.job.specs.Reading.{rows}
 use Rattle.job.specs.Writing.{jobAt}

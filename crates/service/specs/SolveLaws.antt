@@ -1,8 +1,8 @@
 -- The solver over arrays computes the model's answer. Assumes nothing.
-use Prim.Native.Nat.{ℕ, zero, suc, _+_, _-_, _^_, _<_, _≤_}
+use Prim.Native.Nat.{ℕ, _-_, _^_, _<_, _≤_}
 use native.Mathlib.Omega.{arith}
-use mathlib.Core.Path.{_≡_, refl, sym, ap, ap₂, subst, fun-ext, _∙_}
-use mathlib.Core.Bool.{Bool, true, false, not, xor, _&&_}
+use mathlib.Core.Path.{_≡_, refl, sym, ap, ap₂, subst, _∙_}
+use mathlib.Core.Bool.{not, xor, _&&_}
 use mathlib.Core.List.{List}
 use lib.Dec.{leb, ltb, eqb}
 use lib.ListN.{length, getD, take}
@@ -16,17 +16,17 @@ use Rattle.graph.specs.CountLaws.{count-below}
 use Rattle.graph.specs.RankLaws.{tree-lists, spare-lists, tree-falls, spare-rises}
 use Rattle.graph.specs.Paths.{rooted, coversRank}
 use Rattle.optimum.specs.Search.{Problem, matching}
-use Rattle.optimum.specs.Lowest.{Labels, labels}
+use Rattle.optimum.specs.Lowest.{labels}
 use Rattle.optimum.specs.Solve.{problem, newCosts, partners, pairAt, gap, solve}
 use Rattle.optimum.specs.Range.{pairs-few}
 use Rattle.frame.specs.Job.{Job, link, graphOf, treeOf, costOf}
 use Rattle.frame.specs.Answers.{answerOf}
 use Rattle.frame.specs.Meaning.{Accepted}
 use Rattle.frame.specs.OwnAnswer.{own, own-layout}
-use Rattle.tree.specs.Arrays.{arrayGraph, paths}
+use Rattle.tree.specs.Arrays.{paths}
 use Rattle.ranks.specs.Keys.{spareList}
-use Rattle.search.specs.State.{matesOf, Below, Rows}
-use Rattle.matching.specs.Progress.{costAt, Edges, Holds, Buildable, Built}
+use Rattle.search.specs.State.{matesOf}
+use Rattle.matching.specs.Progress.{costAt, Edges, Holds, Built}
 use Rattle.answer.specs.Contents.{costsAt, pairsOf, answerAt, Listed}
 use Rattle.solution.specs.Asked.{covers, undercuts, Falling, Rising, Ends}
 use Rattle.service.specs.Accepting.{Held}

@@ -1,17 +1,17 @@
 -- The judge of trees: over the arrays of an accepted job it says what the definition says. Assumes nothing.
-use Prim.Native.Nat.{ℕ, zero, suc, _-_, _<_, _≤_}
+use Prim.Native.Nat.{ℕ, zero, suc, _-_}
 use native.Mathlib.Omega.{arith}
 use mathlib.Core.Path.{_≡_, refl, sym, ap, subst, _∙_}
 use mathlib.Core.Logic.{_↔_, ⊎-elim}
 use mathlib.Core.Bool.{Bool, true, false, cond}
 use mathlib.Core.List.{List}
 use lib.Dec.{eqb}
-use lib.ListN.{length, getD, take}
+use lib.ListN.{length, take}
 use Rattle.loops.specs.TestLaws.{truth, clash}
 use Rattle.leb128.specs.Number.{Bytes}
-use Rattle.graph.specs.Graph.{Graph, EdgeSet}
+use Rattle.graph.specs.Graph.{EdgeSet}
 use Rattle.graph.specs.Paths.{rooted, judge}
-use Rattle.frame.specs.Job.{Job, link, graphOf, treeOf, costOf}
+use Rattle.frame.specs.Job.{Job, graphOf, treeOf}
 use Rattle.frame.specs.Questions.{jobOf, refusal}
 use Rattle.frame.specs.Answers.{judgeTree, judgeAnswer}
 use Rattle.frame.specs.Meaning.{Accepted}

@@ -1,5 +1,4 @@
 -- `service::accept::accept` meets its contract: the form is asked first, then the tree over the arrays. Assumes nothing.
-use Prim.Native.Nat.{ℕ}
 use mathlib.Core.Path.{_≡_, sym, ap, _∙_}
 use native.Mathlib.Omega.{arith}
 use borrow.Author.Tests.{not-true, not-false}

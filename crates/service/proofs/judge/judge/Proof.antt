@@ -1,5 +1,4 @@
 -- `service::judge::judge` meets its contract: the frame is asked the six questions, and its job judged. Assumes nothing.
-use Rattle.leb128.specs.Number.{Bytes}
 use Rattle.service.specs.Accepting.{Asked}
 use borrow.Author.Needs.{needs}
 use Rattle.service.proofs.judge.judge.Statement.{statement}

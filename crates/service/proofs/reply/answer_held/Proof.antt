@@ -2,7 +2,6 @@
 -- nothing. Assumes nothing.
 use Prim.Native.Nat.{ℕ}
 use mathlib.Core.Path.{refl, sym, ap, _∙_}
-use native.Mathlib.Omega.{arith}
 use Rattle.frame.specs.Questions.{jobOf}
 use Rattle.frame.specs.Answers.{answerFrame, answerOf}
 use Rattle.frame.specs.Services.{written}

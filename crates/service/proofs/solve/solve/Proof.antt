@@ -9,7 +9,6 @@ use Rattle.sets.specs.SetsLaws.{member-none}
 use Rattle.job.specs.Held.{zero-at}
 use Rattle.service.specs.Solving.{Costed}
 use Rattle.service.specs.SolveLaws.{tree-order, spare-order, few-spares, spare-edges, spare-ends, few-pairs, small-steps, answer-is}
-use borrow.Author.Needs.{needs}
 use Rattle.service.proofs.solve.solve.Statement.{statement}
 use Rattle.service.proofs.solve.solve.Tie as tie
 

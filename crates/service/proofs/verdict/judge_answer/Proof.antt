@@ -1,5 +1,4 @@
 -- `service::verdict::judge_answer` meets its contract: the frame is asked the six questions, and the offered frame judged. Assumes nothing.
-use Rattle.leb128.specs.Number.{Bytes}
 use Rattle.service.specs.Accepting.{Asked}
 use borrow.Author.Needs.{needs}
 use Rattle.service.proofs.verdict.judge_answer.Statement.{statement}
