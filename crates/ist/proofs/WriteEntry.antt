@@ -41,9 +41,9 @@ use denote.Exit.{yes}
 use denote.Triple.Clauses.{Ended, Clauses, closing, Lasts, ensured, lasts}
 use Rattle.records.specs.declared.Link.{Link}
 use Rattle.records.specs.Records.{firsts, allSmall}
-use Rattle.service.specs.ListJobs.{Of}
 use Rattle.records.proofs.Link.Laws as T′
 use Rattle.records.proofs.LinkRows.{R, word, slice, gone}
+use Rattle.ist.specs.Exports.{Of}
 use Rattle.ist.proofs.Lent.{Small, Load, Links, Own, calls-small, calls-load, copy-typed, copy-makes}
 use Rattle.records.proofs.all_small.Symbol.{name as #records·all-small}
 use Rattle.records.proofs.load.Symbol.{name as #records·load}

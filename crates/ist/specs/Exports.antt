@@ -1,14 +1,16 @@
 -- What the functions for C promise: a service's promise, with its reply or verdict told in plain numbers. Definitions only.
 -- Assumes nothing.
-use Prim.Native.Nat.{ℕ, _≤_}
+use Prim.Native.Nat.{ℕ, min}
 use mathlib.Core.Path.{_≡_}
+use mathlib.Core.Bool.{Bool}
 use mathlib.Core.List.{List}
+use lib.ListN.{length}
 use lib.IntN.{ℤ, pos, negsuc}
+use Rattle.records.specs.declared.Link.{Link}
+use Rattle.records.specs.Records.{firsts, allSmall}
 use Rattle.job.specs.declared.write.Reply.{Reply}
-use Rattle.service.specs.Answering.{Answered}
-use Rattle.service.specs.Verdicts.{TreeJudged, AnswerJudged}
-use Rattle.service.specs.declared.judge.Verdict.{Verdict}
-use Rattle.service.specs.declared.judge.Verdict.the-variants.{Yes, No, Refused}
+use Rattle.judging.specs.declared.Verdict.{Verdict}
+use Rattle.judging.specs.declared.Verdict.the-variants.{Yes, No, Refused}
 
 -- A verdict as a number: 0 for yes, -1 for no, else the refusal.
 abbrev pub codeOf : Verdict → ℤ
@@ -16,9 +18,18 @@ codeOf Yes = pos 0
 codeOf No = negsuc 0
 codeOf (Refused refusal) = pos refusal
 
--- A refusal inside a verdict is the number of a question.
-abbrev pub Sayable : Verdict → Type 0
-Sayable v = (refusal : ℕ) → v ≡ Refused refusal → refusal ≤ 7
+-- A refusal's number as a result of C can tell it: numbers to 31 as they are, any other as 31.
+abbrev pub told : ℕ → ℕ
+told n = min n 31
+
+abbrev pub toldVerdict : Verdict → Verdict
+toldVerdict Yes = Yes
+toldVerdict No = No
+toldVerdict (Refused n) = Refused (told n)
+
+-- What is said of every list of which n is the length, word the test and links the copy: of the list that was lent.
+abbrev pub Of : ℕ → Bool → List Link → (List Link → Type 0) → Type 0
+Of n word links Φ = (ys : List Link) → n ≡ length ys → word ≡ allSmall ys → links ≡ firsts 256 ys → Φ ys
 
 -- The number is that of a verdict which the judge may give.
 pub record Said (Judged : Verdict → Type 0) (r : ℤ) : Type 0 where

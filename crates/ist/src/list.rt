@@ -1,17 +1,19 @@
 // The functions for C over a lent list of link records. The borrow checker does not cover such a list: each function over it
 // is proved by hand, and only hands the list's length, a test and a copy to the function above it.
 ghost use mathlib.Core.Path.{_≡_};
-ghost use Rattle.service.specs.Verdicts.{TreeJudged, AnswerJudged};
-ghost use Rattle.service.specs.ListJobs.{Of, listJob, ListWritten, ListAnswered, ListJudged};
-ghost use Rattle.ist.specs.Exports.{Said, Replied};
+ghost use Rattle.judging.specs.Verdicts.{TreeJudged, AnswerJudged};
+ghost use Rattle.accept.specs.ListJobs.{listJob};
+ghost use Rattle.lists.specs.ListServices.{ListWritten, ListAnswered, ListJudged, ListCostLocated};
+ghost use Rattle.ist.specs.Exports.{Of, Said, Replied};
 use crate::code;
 use crate::number;
+use ids::Edge;
 use records::Link;
 
 fn judge_copy(stations: u32, count: usize, small: bool, links: [Link; 256]) -> i32
     ensures { λ r. ⌜ Of count small links (λ ys. Said (ListJudged (listJob stations ys) TreeJudged) r) ⌝ }
 {
-    code(service::list::judge_links(stations, count, small, links))
+    code(lists::judge_links(stations, count, small, links))
 }
 
 // Is the marked tree of a list cheapest?
@@ -34,7 +36,7 @@ fn judge_answer_copy(
 ) -> i32
     ensures { λ r. ⌜ Of count small links (λ ys. Said (ListJudged (listJob stations ys) (λ s. AnswerJudged s (now (answer .entry)))) r) ⌝ }
 {
-    code(service::list::judge_answer_links(stations, count, small, links, answer))
+    code(lists::judge_answer_links(stations, count, small, links, answer))
 }
 
 // Is a frame an answer to a list?
@@ -58,7 +60,7 @@ fn answer_copy(
 ) -> i32
     ensures { λ r. ⌜ Of count small links (λ ys. Replied (λ reply. ListAnswered (listJob stations ys) (now (area .entry)) reply (now (area .exit))) r (now (written .exit))) ⌝ }
 {
-    let reply = service::list::answer_links(stations, count, small, links, area);
+    let reply = lists::answer_links(stations, count, small, links, area);
     *written = reply.length;
     number(reply.refusal)
 }
@@ -89,7 +91,7 @@ fn write_copy(
 ) -> i32
     ensures { λ r. ⌜ Of count small links (λ ys. Replied (λ reply. ListWritten (listJob stations ys) (now (area .entry)) reply (now (area .exit))) r (now (written .exit))) ⌝ }
 {
-    let frame = service::list::write_links(stations, count, small, links, area);
+    let frame = lists::write_links(stations, count, small, links, area);
     *written = frame.length;
     number(frame.refusal)
 }
@@ -108,4 +110,39 @@ pub extern "C" fn ist_write_job(
     let small = records::all_small(list);
     let links = records::load(list);
     write_copy(stations, count, small, links, area, written)
+}
+
+fn locate_copy(
+    stations: u32,
+    count: usize,
+    small: bool,
+    links: [Link; 256],
+    answer: &[u8],
+    link: u32,
+    offset: &mut usize,
+    length: &mut usize,
+)
+    ensures { λ _. ⌜ Of count small links (λ ys. ListCostLocated (listJob stations ys) (now (answer .entry)) link (record { offset = now (offset .exit); size = now (length .exit) })) ⌝ }
+{
+    let cost = lists::locate_cost_links(stations, count, small, links, answer, Edge(link));
+    *offset = cost.offset;
+    *length = cost.length;
+}
+
+// Where a link's new cost stands in a frame that is offered as an answer to a list.
+#[no_mangle]
+pub extern "C" fn ist_find_cost_list(
+    stations: u32,
+    list: &[Link],
+    answer: &[u8],
+    link: u32,
+    offset: &mut usize,
+    length: &mut usize,
+)
+    ensures { λ _. ⌜ ListCostLocated (listJob stations (now (list .entry))) (now (answer .entry)) link (record { offset = now (offset .exit); size = now (length .exit) }) ⌝ }
+{
+    let count = list.len();
+    let small = records::all_small(list);
+    let links = records::load(list);
+    locate_copy(stations, count, small, links, answer, link, offset, length);
 }

@@ -6,7 +6,7 @@ use native.Mathlib.Omega.{arith}
 use mathlib.Core.Path.{_≡_, refl, sym, ap, _∙_}
 use mathlib.Core.Bool.{true, false, _&&_}
 use mathlib.Core.List.{List, [], _∷_}
-use lib.ListN.{length, getD, set, replicate, length-replicate, getD-replicate}
+use lib.ListN.{length, getD, set, take, replicate, length-replicate, getD-replicate}
 use lib.Dec.{leb}
 use borrow.Author.Tests.{le-leb, lt-leb}
 use Rattle.loops.specs.Loop.{allBelow}
@@ -59,6 +59,13 @@ firsts-at zero ys e l = absurd (omega arith)
 firsts-at (suc n) [] e l = rw (sub-zero (suc n)) (getD-replicate (suc n) e zeroLink zeroLink l)
 firsts-at (suc n) (y ∷ ys) zero l = refl
 firsts-at (suc n) (y ∷ ys) (suc e) l = rw (suc-sub-suc n (length ys)) (firsts-at n ys e (omega arith))
+
+-- A list that the copy holds whole.
+pub firsts-take : (n : ℕ) (ys : List Link) → length ys ≤ n → take (length ys) (firsts n ys) ≡ ys
+unfolding firsts
+firsts-take n [] h = refl
+firsts-take zero (y ∷ ys) h = absurd (omega arith)
+firsts-take (suc n) (y ∷ ys) h = rw (suc-sub-suc n (length ys)) (ap {B = List Link} (λ r. y ∷ r) (firsts-take n ys (omega arith)))
 
 -- One number of each of the first links, put into a list of numbers: none yet, one more, and what it then holds.
 pub filled-none : (f : Link → ℕ) (ys : List Link) (old : List ℕ) → old ≡ filled f 0 ys old

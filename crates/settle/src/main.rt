@@ -106,7 +106,7 @@ fn print_answer(frame: &[u8], area: &[u8]) -> bool {
 // Prints the answer to a job frame, or its refusal.
 fn settle(frame: &[u8]) -> bool {
     let mut area = [0u8; 768];
-    let reply = service::reply::answer(frame, &mut area);
+    let reply = answering::answer(frame, &mut area);
     if reply.refusal != 0 {
         return print_word(b"refused ", reply.refusal as u64, b"\n");
     }

@@ -1,7 +1,8 @@
 -- `ist::code` meets its contract: a verdict's number. Assumes nothing.
 use mathlib.Core.Path.{sym, ap, _∙_}
-use Rattle.ist.specs.Exports.{codeOf}
-use Rattle.ist.specs.ExportLaws.{number-told}
+use Rattle.judging.specs.declared.Verdict.{Verdict}
+use Rattle.ist.specs.Exports.{codeOf, toldVerdict}
+use Rattle.ist.specs.ExportLaws.{number-read}
 use borrow.Author.Needs.{needs}
 use Rattle.ist.proofs.code.Statement.{statement}
 use Rattle.ist.proofs.code.Tie as tie
@@ -19,15 +20,13 @@ number-requires : tie.Need-number-requires
 number-requires c κs = search needs
 
 returns : tie.Need-returns
-returns c h = sym (ap codeOf (c .enum-told .given .1))
+returns c = sym (ap (λ (v : Verdict). codeOf (toldVerdict v)) (c .enum-told .given .1))
 
 returns-2 : tie.Need-returns-2
-returns-2 c h = sym (ap codeOf (c .enum-told2 .given .1))
+returns-2 c = sym (ap (λ (v : Verdict). codeOf (toldVerdict v)) (c .enum-told2 .given .1))
 
 returns-3 : tie.Need-returns-3
-returns-3 c h =
-    let refused = c .before .before .verdict .given .1 in
-    number-told _ _ (h _ refused) (c .number .ensures) ∙ sym (ap codeOf refused)
+returns-3 c = number-read _ _ (c .number .ensures) ∙ sym (ap (λ (v : Verdict). codeOf (toldVerdict v)) (c .before .before .verdict .given .1))
 
 pub code-spec : {M : Type 1} → statement M
 code-spec =

@@ -1,14 +1,17 @@
--- `ist::number` meets its contract: a number below 8 is its own remainder. Assumes nothing.
-use Rattle.ist.specs.ExportLaws.{remainder-same}
+-- `ist::number` meets its contract: numbers are cut off at 31. Assumes nothing.
+use Rattle.ist.specs.ExportLaws.{number-large, number-small}
 use borrow.Author.Needs.{needs}
 use Rattle.ist.proofs.number.Statement.{statement}
 use Rattle.ist.proofs.number.Tie as tie
 
+returns : tie.Need-returns
+returns c = number-large _ (c .if1 .taken)
+
 cast-result : tie.Need-cast-result
 cast-result c = search needs
 
-returns : tie.Need-returns
-returns c l = remainder-same _ l
+returns-2 : tie.Need-returns-2
+returns-2 c = number-small _ (c .if1 .left)
 
 pub number-spec : {M : Type 1} → statement M
-number-spec = tie.close (tie.spec cast-result returns)
+number-spec = tie.close (tie.spec returns cast-result returns-2)

@@ -46,9 +46,10 @@ use Rattle.records.proofs.all_small.Met as small-thm
 use Rattle.records.proofs.load.Symbol as load-def
 use Rattle.records.proofs.load.Symbol.{name as #records·load}
 use Rattle.records.proofs.load.Met as load-thm
-use Rattle.service.specs.ListJobs.{Of, listJob, ListJudged}
-use Rattle.service.specs.Verdicts.{TreeJudged}
-use Rattle.ist.specs.Exports.{Said}
+use Rattle.accept.specs.ListJobs.{listJob}
+use Rattle.lists.specs.ListServices.{ListJudged}
+use Rattle.judging.specs.Verdicts.{TreeJudged}
+use Rattle.ist.specs.Exports.{Of, Said}
 use Rattle.ist.proofs.Lent.{Small, Load, Links, Own, calls-small, calls-load, copy-typed, copy-makes}
 use Rattle.ist.proofs.list.judge_copy as core
 use Rattle.ist.proofs.list.judge_copy.Symbol as core-def

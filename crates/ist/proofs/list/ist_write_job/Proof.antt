@@ -9,7 +9,8 @@ use Rattle.records.proofs.all_small.Met as small-thm
 use Rattle.records.proofs.load.Symbol as load-def
 use Rattle.records.proofs.load.Symbol.{name as #records·load}
 use Rattle.records.proofs.load.Met as load-thm
-use Rattle.service.specs.ListJobs.{listJob, ListWritten}
+use Rattle.accept.specs.ListJobs.{listJob}
+use Rattle.lists.specs.ListServices.{ListWritten}
 use Rattle.ist.specs.Exports.{Replied}
 use Rattle.ist.proofs.Lent.{Small, Load}
 use Rattle.ist.proofs.WriteEntry.{Says, Core, meets}

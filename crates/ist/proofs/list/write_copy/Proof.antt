@@ -1,5 +1,6 @@
 -- `ist::list::write_copy` meets its contract: the reply's number and length. Assumes nothing.
 use mathlib.Core.Path.{refl}
+use Rattle.lists.specs.LentLaws.{lent-as, lent-written}
 use Rattle.ist.specs.ExportLaws.{number-told, list-written-most}
 use borrow.Author.Needs.{needs}
 use Rattle.ist.proofs.list.write_copy.Statement.{statement}
@@ -17,7 +18,8 @@ same-length c = search needs
 returns : tie.Need-returns
 returns c = λ ys n small copy.
     let w = c .before in
-    let told = w .before .before .write-links .ensures ys n small copy in
+    let a = w .before .before .before .before .before .args in
+    let told = lent-written (a .stations) ys _ _ _ (lent-as (a .stations) ys _ _ n small copy (w .before .before .write-links .ensures)) in
     record { reply = w .before .before .write-links .result; number = number-told _ _ (list-written-most _ _ _ _ told) (c .number .ensures); length = refl; told = told }
 
 pub write-copy-spec : {M : Type 1} → statement M

@@ -1,0 +1,140 @@
+-- `accept::accept_links` meets its contract: the word and the counts are asked first, then the arrays. Assumes nothing.
+use Prim.Native.Nat.{ℕ, _≤_}
+use mathlib.Core.Path.{_≡_, sym, ap, subst, _∙_}
+use native.Mathlib.Omega.{arith}
+use lib.ListN.{length, take, length-map}
+use lib.Seq.{length-take-le}
+use Rattle.frame.specs.Job.{Job}
+use Rattle.frame.specs.Services.{listRefusal}
+use Rattle.job.specs.declared.read.Header.{Header}
+use Rattle.job.specs.Writing.{jobAt}
+use Rattle.accept.specs.Accepting.{Held, refusedHeader}
+use Rattle.accept.specs.Lists.{ListHeld}
+use Rattle.accept.specs.ArrayLaws.{empty-places}
+use Rattle.accept.specs.ListJobs.{edgeOf, listJob, countRefusal}
+use Rattle.accept.specs.ListJobLaws.{count-few, columns-held, columns-job}
+use Rattle.accept.specs.ListAcceptLaws.{list-refused, list-held, some-held}
+use borrow.Author.Needs.{needs}
+use Rattle.accept.proofs.accept_links.Statement.{statement}
+use Rattle.accept.proofs.accept_links.Tie as tie
+
+nonzero : (h : Header) (r : ℕ) → h ≡ refusedHeader r → (r ≡ 0 → ⊥) → h .refusal ≡ 0 → ⊥
+nonzero h r e n z = n (sym (ap (λ (h : Header). h .refusal) e) ∙ z)
+
+-- the word and the counts refuse nothing
+passed : (k : tie.Else1) → let a = k .before .before .args in countRefusal (a .nodes) (a .count) (a .small) ≡ 0
+passed k = sym (k .before .count-refusal .ensures) ∙ k .if1 .left
+
+few : (k : tie.Else1) → k .before .before .args .count ≤ 256
+few k = let a = k .before .before .args in count-few (a .nodes) (a .count) (a .small) (passed k)
+
+-- the links are in the arrays
+held : (s : tie.After-spread) → let l = s .spread .last .1 .1 in ListHeld (s .before .before .before .before .before .before .before .args .count) (l .0) (l .1 .0) (l .1 .1 .0) (l .1 .1 .1 .0)
+held s =
+    let st = s .before .before .before .before .before .before .before in
+    let a = st .args in
+    let l = s .spread .last .1 .1 in
+    let e = s .spread .ensures in
+    columns-held (a .count) (a .links) (a .end1 .now) (a .end2 .now) (a .cost .now) (a .mark .now) (a .ts .now) (l .0) (l .1 .0) (l .1 .1 .0) (l .1 .1 .1 .0) (st .good .1 .1 .1 .0 .1 .0 .1) (st .pre) (e .0) (e .1 .0) (e .1 .1 .0) (e .1 .1 .1)
+
+job :
+    (s : tie.After-spread) →
+    let a = s .before .before .before .before .before .before .before .args in
+    let l = s .spread .last .1 .1 in
+    jobAt (a .nodes) (a .count) (l .0) (l .1 .0) (l .1 .1 .0) (l .1 .1 .1 .0) ≡ listJob (a .nodes) (take (a .count) (a .links))
+job s =
+    let st = s .before .before .before .before .before .before .before in
+    let a = st .args in
+    let l = s .spread .last .1 .1 in
+    let e = s .spread .ensures in
+    columns-job (a .count) (a .links) (a .end1 .now) (a .end2 .now) (a .cost .now) (a .mark .now) (a .ts .now) (l .0) (l .1 .0) (l .1 .1 .0) (l .1 .1 .1 .0) (st .good .1 .1 .1 .0 .1 .0 .1) (st .pre) (e .0) (e .1 .0) (e .1 .1 .0) (e .1 .1 .1)
+    (few (s .before .before .before .before .before)) (a .nodes)
+
+-- the refusal that was found is that of the job
+number :
+    (t : tie.After-accept-list) →
+    let a = t .before .before .before .before .before .before .before .before .before .before .before .before .before .before .args in
+    t .accept-list .result ≡ listRefusal (listJob (a .nodes) (take (a .count) (a .links)))
+number t = t .accept-list .ensures .0 ∙ ap listRefusal (job (t .before .before .before .before .before .before .before))
+
+count-refusal-requires : tie.Need-count-refusal-requires
+count-refusal-requires c κs = search needs
+
+refused-requires : tie.Need-refused-requires
+refused-requires c κs = search needs
+
+returns : tie.Need-returns
+returns c =
+    let t = c .before .before in
+    let n = c .before .if1 .taken in (
+      record {
+        refused = λ _. c .refused .ensures ∙ ap refusedHeader (t .count-refusal .ensures);
+        said = λ z. absurd (n (t .count-refusal .ensures ∙ z));
+      },
+      λ z. absurd (nonzero (c .refused .result) (t .count-refusal .result) (c .refused .ensures) n z),
+    )
+
+spread-requires : tie.Need-spread-requires
+spread-requires c κs =
+    let p = empty-places (c .before .before .before .before .before .before .pre) in
+    (p .end₁, p .end₂, p .cost, p .mark)
+
+accept-list-requires : tie.Need-accept-list-requires
+accept-list-requires c κs = (held (c .before .before .before .before .before .before), c .before .before .before .before .before .before .before .before .before .before .before .before .before .pre .ranks)
+
+refused-requires-2 : tie.Need-refused-requires-2
+refused-requires-2 c κs = search needs
+
+returns-2 : tie.Need-returns-2
+returns-2 c =
+    let t = c .before .before in
+    let k = t .before .before .before .before .before .before .before .before .before .before .before .before in
+    let a = k .before .before .args in
+    let n = c .before .if2 .taken in (
+      record {
+        refused = λ w. absurd (w (passed k));
+        said = λ _. list-refused (listJob (a .nodes) (take (a .count) (a .links))) (t .accept-list .result) (c .refused2 .result) _ _ _ _ _ _ (number t) n (c .refused2 .ensures);
+      },
+      λ z. absurd (nonzero (c .refused2 .result) (t .accept-list .result) (c .refused2 .ensures) n z),
+    )
+
+cast-t25 : tie.Need-cast-t25
+cast-t25 c =
+    let k = c .before .before .before .before .before .before .before .before .before .before .before .before .before in
+    record { fits = omega (arith, few k) }
+
+returns-3 : tie.Need-returns-3
+returns-3 c =
+    let t = c .before in
+    let s = t .before .before .before .before .before .before .before in
+    let k = s .before .before .before .before .before in
+    let st = k .before .before in
+    let a = st .args in
+    let l = s .spread .last .1 .1 in
+    let z = c .if2 .left in
+    let kept = t .accept-list .ensures .1 z in
+    let found = t .accept-list .last .1 .1 .1 .1 .1 .1 in
+    let size = length-map (take (a .count) (a .links)) edgeOf ∙ length-take-le (a .count) (a .links) (omega (arith, few k, st .good .1 .1 .1 .0 .1 .0 .1)) in (
+      record {
+        refused = λ w. absurd (w (passed k));
+        said = λ _.
+            list-held (listJob (a .nodes) (take (a .count) (a .links))) _ (l .0) (l .1 .0) (l .1 .1 .0) (l .1 .1 .1 .0) _ _ (sym (number t) ∙ z)
+            (ap (λ (m : ℕ). record { refusal = 0; nodes = a .nodes; edges = m }) (sym size))
+            (subst (λ (j : Job). Held j (l .0) (l .1 .0) (l .1 .1 .0) (l .1 .1 .1 .0) (found .0) (found .1 .0)) (job s) kept);
+      },
+      λ _. some-held (a .nodes) (a .count) (l .0) (l .1 .0) (l .1 .1 .0) (l .1 .1 .1 .0) _ _ (sym (t .accept-list .ensures .0) ∙ z) kept,
+    )
+
+pub accept-links-spec : {M : Type 1} → statement M
+accept-links-spec =
+    tie.close
+    (tie.spec
+    count-refusal-requires
+    refused-requires
+    returns
+    spread-requires
+    accept-list-requires
+    refused-requires-2
+    returns-2
+    cast-t25
+    returns-3)

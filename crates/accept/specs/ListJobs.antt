@@ -1,0 +1,52 @@
+-- Links lent as a list of records: the job that they make, and what is said of what is given of such a list. Definitions
+-- only. Assumes nothing.
+use Prim.Native.Nat.{ℕ}
+use mathlib.Core.Path.{_≡_}
+use mathlib.Core.Logic.{_≢_}
+use mathlib.Core.Bool.{Bool, true, false, _&&_}
+use mathlib.Core.List.{List, map}
+use lib.Dec.{leb}
+use lib.ListN.{length, take}
+use Rattle.records.specs.declared.Link.{Link}
+use Rattle.frame.specs.Job.{Edge, Job, maxEdges, maxNumber, jobFrame}
+use Rattle.frame.specs.Questions.{jobOf, ask}
+use Rattle.frame.specs.Services.{small}
+use Rattle.frame.specs.Meaning.{Accepted}
+use Rattle.job.specs.declared.read.Header.{Header}
+use Rattle.accept.specs.Accepting.{Held, acceptedHeader, refusedHeader}
+
+-- The job of a list of records.
+abbrev pub edgeOf : Link → Edge
+edgeOf l = record { end₁ = l .end1; end₂ = l .end2; cost = l .cost; mark = l .mark }
+
+abbrev pub listJob : ℕ → List Link → Job
+listJob nodes ys = record { nodes = nodes; links = map edgeOf ys }
+
+-- The refusal that is known before a link is looked at: 1 if a count is large or if the word on the links' numbers is that one
+-- is; 2 if there are more than 256 links; else 0.
+abbrev pub countRefusal : ℕ → ℕ → Bool → ℕ
+countRefusal nodes count word =
+    ask (leb nodes maxNumber && leb count maxNumber && word) 1 λ _.
+    ask (leb count maxEdges) 2 λ _.
+    0
+
+-- What is said of a list that is given as its length, the word that its numbers are small and a copy of its first links:
+-- that it is refused by the above; else what is said of the job of the first `count` links of the copy. Links behind these do
+-- not count. So much is said of whatever is given, be it of a list or not.
+pub record Given (nodes count : ℕ) (word : Bool) (links : List Link) (Refused : ℕ → Type 0) (Said : Job → Type 0) : Type 0 where
+  pub refused : countRefusal nodes count word ≢ 0 → Refused (countRefusal nodes count word)
+  pub said : countRefusal nodes count word ≡ 0 → Said (listJob nodes (take count links))
+
+-- A list whose numbers are small is accepted as its frame is; any other is refused by question 1.
+pub record ListAccepted (j : Job) (h : Header) (as₁ as₂ as₃ as₄ ts mask : List ℕ) : Type 0 where
+  pub large : small j ≡ false → h ≡ refusedHeader 1
+  pub header : small j ≡ true → h ≡ acceptedHeader (jobFrame j)
+  pub held : small j ≡ true → h .refusal ≡ 0 → Held (jobOf (jobFrame j)) as₁ as₂ as₃ as₄ ts mask
+
+-- The arrays hold an accepted job, of so many stations and links.
+pub record SomeHeld (nodes edges : ℕ) (as₁ as₂ as₃ as₄ ts mask : List ℕ) : Type 0 where
+  pub job : Job
+  pub held : Held job as₁ as₂ as₃ as₄ ts mask
+  pub accepted : Accepted job
+  pub nodes-are : nodes ≡ job .nodes
+  pub edges-are : edges ≡ length (job .links)

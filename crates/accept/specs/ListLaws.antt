@@ -1,0 +1,82 @@
+-- A list of links in arrays: the arrays store its job, and question 6 comes behind questions 1 to 5. Assumes nothing.
+use Prim.Native.Nat.{ℕ, _≤_}
+use native.Mathlib.Decide.{decLt}
+use native.Mathlib.Omega.{arith}
+use mathlib.Core.Path.{_≡_, refl, sym, ap, fun-ext, _∙_}
+use mathlib.Core.Bool.{Bool, true, false}
+use mathlib.Core.List.{List}
+use lib.ListN.{getD, List·getD-eq-default}
+use Rattle.loops.specs.GatherLaws.{getD-tabulate}
+use Rattle.frame.specs.Job.{Edge, Job, noEdge, link}
+use Rattle.frame.specs.Questions.{ask, question4, question5, question6}
+use Rattle.frame.specs.Services.{small, counted, listFormRefusal, listRefusal}
+use Rattle.frame.specs.Lists.{listed, list-passed, small-job, counted-limits}
+use Rattle.job.specs.Reading.{rows}
+use Rattle.job.specs.Writing.{jobAt}
+use Rattle.job.specs.WritingLaws.{rows-length}
+use Rattle.accept.specs.Lists.{ListHeld}
+use Rattle.accept.specs.ArrayLaws.{Stored}
+
+-- Four questions in turn, and then x.
+abbrev chain : Bool → Bool → Bool → Bool → ℕ → ℕ
+chain a b c d x = ask a 1 λ _. ask b 2 λ _. ask c 4 λ _. ask d 5 λ _. x
+
+chain-passed : (a b c d : Bool) (x : ℕ) → chain a b c d 0 ≡ 0 → chain a b c d x ≡ x
+chain-passed true true true true x h = refl
+chain-passed true true true false x h = absurd (omega arith)
+chain-passed true true false d x h = absurd (omega arith)
+chain-passed true false c d x h = absurd (omega arith)
+chain-passed false b c d x h = absurd (omega arith)
+
+chain-refused : (a b c d : Bool) (x : ℕ) → (chain a b c d 0 ≡ 0 → ⊥) → chain a b c d x ≡ chain a b c d 0
+chain-refused true true true true x h = absurd (h refl)
+chain-refused true true true false x h = refl
+chain-refused true true false d x h = refl
+chain-refused true false c d x h = refl
+chain-refused false b c d x h = refl
+
+pub list-form-refused : (j : Job) → (listFormRefusal j ≡ 0 → ⊥) → listRefusal j ≡ listFormRefusal j
+list-form-refused j n = chain-refused (small j) (counted j) (question4 j) (question5 j) (ask (question6 j) 6 λ _. 0) n
+
+pub list-tree : (j : Job) → listFormRefusal j ≡ 0 → listRefusal j ≡ ask (question6 j) 6 λ _. 0
+list-tree j z = chain-passed (small j) (counted j) (question4 j) (question5 j) (ask (question6 j) 6 λ _. 0) z
+
+module _ (nodes edges : ℕ) (as₁ as₂ as₃ as₄ : List ℕ) (h : ListHeld edges as₁ as₂ as₃ as₄) where
+  row : ℕ → Edge
+  row e = record { end₁ = getD as₁ e 0; end₂ = getD as₂ e 0; cost = getD as₃ e 0; mark = getD as₄ e 0 }
+
+  -- At every place the arrays say what the list says.
+  said : (f : Edge → ℕ) → f noEdge ≡ 0 → ((e : ℕ) → edges ≤ e → f (row e) ≡ 0) → _≡_ {A = ℕ → ℕ} (λ e. f (row e)) (λ e. f (link (jobAt nodes edges as₁ as₂ as₃ as₄) e))
+  unfolding row
+  said f z past =
+      fun-ext λ e.
+      elim (decLt e edges) [
+        | yes l ↦ sym (ap f (getD-tabulate row edges e noEdge l))
+        | no l ↦ past e (omega arith) ∙ sym (ap f (List·getD-eq-default (rows edges as₁ as₂ as₃ as₄) noEdge (omega (arith, rows-length edges as₁ as₂ as₃ as₄))) ∙ z)
+      ]
+
+  pub list-stored : listFormRefusal (jobAt nodes edges as₁ as₂ as₃ as₄) ≡ 0 → Stored (jobAt nodes edges as₁ as₂ as₃ as₄) as₁ as₂ as₃ as₄
+  unfolding row
+  list-stored z =
+      let good = listed (jobAt nodes edges as₁ as₂ as₃ as₄) z in
+      let limits = counted-limits (jobAt nodes edges as₁ as₂ as₃ as₄) (good .counted) in
+      record {
+        end₁ = said (λ (l : Edge). l .end₁) refl (h .end₁);
+        end₂ = said (λ (l : Edge). l .end₂) refl (h .end₂);
+        cost = said (λ (l : Edge). l .cost) refl (h .cost);
+        mark = said (λ (l : Edge). l .mark) refl (h .mark);
+        places = h .places .cost;
+        nodes-few = limits .1;
+        edges-few = limits .2;
+        small = small-job (jobAt nodes edges as₁ as₂ as₃ as₄) (good .small);
+        ends-hold = good .ends;
+      }
+
+  pub list-few : listFormRefusal (jobAt nodes edges as₁ as₂ as₃ as₄) ≡ 0 → edges ≤ 256
+  list-few z = omega (arith, list-stored z .edges-few, rows-length edges as₁ as₂ as₃ as₄)
+
+-- A list that passes questions 1 to 6 has at most 256 links.
+pub list-accepted-few : (nodes edges : ℕ) (as₁ as₂ as₃ as₄ : List ℕ) → listRefusal (jobAt nodes edges as₁ as₂ as₃ as₄) ≡ 0 → edges ≤ 256
+list-accepted-few nodes edges as₁ as₂ as₃ as₄ z =
+    let j = jobAt nodes edges as₁ as₂ as₃ as₄ in
+    omega (arith, counted-limits j (list-passed (λ j. ask (question6 j) 6 λ _. 0) j z .0 .counted), rows-length edges as₁ as₂ as₃ as₄)

@@ -1,0 +1,139 @@
+// Questions 1 to 6, put to a job frame or to a list of links; an accepted job is then held in arrays, with its tree ranks and
+// paths.
+ghost use mathlib.Core.Path.{_≡_};
+ghost use lib.ListN.{length};
+ghost use Rattle.frame.specs.Questions.{jobOf};
+ghost use Rattle.frame.specs.Services.{listRefusal};
+ghost use Rattle.job.specs.Writing.{jobAt};
+ghost use Rattle.accept.specs.Accepting.{Empty, Held, acceptedHeader, refusedHeader};
+ghost use Rattle.accept.specs.Lists.{ListHeld};
+ghost use Rattle.accept.specs.ListJobs.{countRefusal, Given, ListAccepted, SomeHeld};
+use job::read::Header;
+use records::Link;
+
+// A refusal has no counts.
+pub fn refused(refusal: u32) -> Header
+    ensures { λ r. ⌜ r ≡ refusedHeader refusal ⌝ }
+{
+    Header {
+        refusal: refusal,
+        nodes: 0,
+        edges: 0,
+    }
+}
+
+// The first refusal of questions 1 to 6; or the counts, with the job in the arrays.
+pub fn accept(
+    frame: &[u8],
+    end1: &mut [u32; 256],
+    end2: &mut [u32; 256],
+    cost: &mut [u32; 256],
+    mark: &mut [u32; 256],
+    ts: &mut [u32; 256],
+    mask: &mut [u64; 64],
+) -> Header
+    requires { ⌜ Empty (now end1) (now end2) (now cost) (now mark) (now ts) ⌝ }
+    ensures header { λ r. ⌜ r ≡ acceptedHeader (now (frame .entry)) ⌝ }
+    ensures job { λ r. ⌜ (r .refusal ≡ 0 → Held (jobOf (now (frame .entry))) (now (end1 .exit)) (now (end2 .exit)) (now (cost .exit)) (now (mark .exit)) (now (ts .exit)) (now (mask .exit))) ⌝ }
+{
+    let header = job::read::read_job(frame, end1, end2, cost, mark);
+    let refusal = header.refusal;
+    if refusal != 0 {
+        return header;
+    }
+    let nodes = header.nodes;
+    let edges = header.edges as usize;
+    let count = ranks::tree_ranks(edges, cost, mark, ts);
+    if count + 1 != nodes as usize {
+        return refused(6);
+    }
+    if !tree::question6(nodes, ts, count, end1, end2, mask) {
+        return refused(6);
+    }
+    header
+}
+
+// The first refusal of questions 1 to 6 for links in arrays; question 3 is met. Of an accepted list the tree ranks and
+// paths are found.
+pub fn accept_list(
+    nodes: u32,
+    edges: usize,
+    end1: &[u32; 256],
+    end2: &[u32; 256],
+    cost: &[u32; 256],
+    mark: &[u32; 256],
+    ts: &mut [u32; 256],
+    mask: &mut [u64; 64],
+) -> u32
+    requires { ⌜ ListHeld edges (now end1) (now end2) (now cost) (now mark) ⌝ }
+    requires { ⌜ length (now ts) ≡ 256 ⌝ }
+    ensures refusal { λ r. ⌜ r ≡ listRefusal (jobAt nodes edges (now (end1 .entry)) (now (end2 .entry)) (now (cost .entry)) (now (mark .entry))) ⌝ }
+    ensures held { λ r. ⌜ (r ≡ 0 → Held (jobAt nodes edges (now (end1 .entry)) (now (end2 .entry)) (now (cost .entry)) (now (mark .entry)))
+        (now (end1 .entry)) (now (end2 .entry)) (now (cost .entry)) (now (mark .entry)) (now (ts .exit)) (now (mask .exit))) ⌝ }
+{
+    let refusal = job::write::check_list(nodes, edges, end1, end2, cost, mark);
+    if refusal != 0 {
+        return refusal;
+    }
+    let count = ranks::tree_ranks(edges, cost, mark, ts);
+    if count + 1 != nodes as usize {
+        return 6;
+    }
+    if !tree::question6(nodes, ts, count, end1, end2, mask) {
+        return 6;
+    }
+    0
+}
+
+// The refusal that is known before a link is looked at: by the word on large numbers and by the counts.
+fn count_refusal(nodes: u32, count: usize, small: bool) -> u32
+    ensures { λ r. ⌜ r ≡ countRefusal nodes count small ⌝ }
+{
+    if 16383 < nodes {
+        return 1;
+    }
+    if 16383 < count {
+        return 1;
+    }
+    if !small {
+        return 1;
+    }
+    if 256 < count {
+        return 2;
+    }
+    0
+}
+
+// The first refusal of questions 1 to 6 for a list of `count` records, or the counts, with the job in the arrays. `links` is
+// a copy of the first 256 of the list; whether the numbers of all are small, `small` says.
+pub fn accept_links(
+    nodes: u32,
+    count: usize,
+    small: bool,
+    links: [Link; 256],
+    end1: &mut [u32; 256],
+    end2: &mut [u32; 256],
+    cost: &mut [u32; 256],
+    mark: &mut [u32; 256],
+    ts: &mut [u32; 256],
+    mask: &mut [u64; 64],
+) -> Header
+    requires { ⌜ Empty (now end1) (now end2) (now cost) (now mark) (now ts) ⌝ }
+    ensures list { λ r. ⌜ Given nodes count small links (λ n. r ≡ refusedHeader n) (λ j. ListAccepted j r (now (end1 .exit)) (now (end2 .exit)) (now (cost .exit)) (now (mark .exit)) (now (ts .exit)) (now (mask .exit))) ⌝ }
+    ensures job { λ r. ⌜ (r .refusal ≡ 0 → SomeHeld (r .nodes) (r .edges) (now (end1 .exit)) (now (end2 .exit)) (now (cost .exit)) (now (mark .exit)) (now (ts .exit)) (now (mask .exit))) ⌝ }
+{
+    let early = count_refusal(nodes, count, small);
+    if early != 0 {
+        return refused(early);
+    }
+    records::spread(count, links, end1, end2, cost, mark);
+    let refusal = accept_list(nodes, count, end1, end2, cost, mark, ts, mask);
+    if refusal != 0 {
+        return refused(refusal);
+    }
+    Header {
+        refusal: 0,
+        nodes: nodes,
+        edges: count as u32,
+    }
+}

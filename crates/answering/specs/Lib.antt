@@ -1,0 +1,3 @@
+-- What the answer service promises, and laws about it.
+pub mod Answering
+pub mod AnswerLaws

@@ -1,0 +1,97 @@
+// Answers a job: the new costs with the fewest steps, and the pairing that proves it, into an area.
+ghost use mathlib.Core.Path.{_≡_};
+ghost use mathlib.Core.Logic.{_≢_};
+ghost use mathlib.Core.List.{List};
+ghost use Prim.Native.Nat.{ℕ};
+ghost use Rattle.accept.specs.Accepting.{Asked, AskedSome};
+ghost use Rattle.answering.specs.Answering.{Answered, Untouched};
+use accept::accept;
+use job::read::Header;
+use job::write::Reply;
+use solve::solve;
+
+// Writes the answer to a job in arrays into the area, or refuses it and writes nothing. The arrays of ends and marks serve
+// as room.
+pub fn answer_held(
+    header: Header,
+    end1: &mut [u32; 256],
+    end2: &mut [u32; 256],
+    cost: &[u32; 256],
+    mark: &mut [u32; 256],
+    ts: &[u32; 256],
+    mask: &[u64; 64],
+    area: &mut [u8],
+) -> Reply
+    requires { ⌜ AskedSome header (now end1) (now end2) (now cost) (now mark) (now ts) (now mask) ⌝ }
+    ensures answered { λ r. ⌜ ((s : List ℕ) → Asked s header (now (end1 .entry)) (now (end2 .entry)) (now (cost .entry)) (now (mark .entry)) (now (ts .entry)) (now (mask .entry)) → Answered s (now (area .entry)) r (now (area .exit))) ⌝ }
+    ensures refused { λ r. ⌜ (header .refusal ≢ 0 → Untouched (header .refusal) (now (area .entry)) r (now (area .exit))) ⌝ }
+{
+    let refusal = header.refusal;
+    if refusal != 0 {
+        return Reply {
+            refusal: refusal,
+            length: 0,
+        };
+    }
+    let nodes = header.nodes;
+    let edges = header.edges as usize;
+    let mut costs = [0u32; 256];
+    let mut pair_tree = [0u32; 64];
+    let mut pair_spare = [0u32; 64];
+    let s = solve(
+        nodes,
+        edges,
+        end1,
+        end2,
+        cost,
+        mark,
+        ts,
+        mask,
+        &mut costs,
+        &mut pair_tree,
+        &mut pair_spare,
+    );
+    let new: &[u32; 256] = &costs;
+    answer::write::write_answer(
+        0,
+        s.steps,
+        edges,
+        new,
+        s.count,
+        &pair_tree,
+        &pair_spare,
+        area,
+        0,
+    )
+}
+
+// Writes the answer to a job frame into the area, or refuses it and writes nothing.
+pub fn answer(frame: &[u8], area: &mut [u8]) -> Reply
+    ensures { λ r. ⌜ Answered (now (frame .entry)) (now (area .entry)) r (now (area .exit)) ⌝ }
+{
+    let mut end1 = [0u32; 256];
+    let mut end2 = [0u32; 256];
+    let mut cost = [0u32; 256];
+    let mut mark = [0u32; 256];
+    let mut ts = [0u32; 256];
+    let mut mask = [0u64; 64];
+    let header = accept(
+        frame,
+        &mut end1,
+        &mut end2,
+        &mut cost,
+        &mut mark,
+        &mut ts,
+        &mut mask,
+    );
+    answer_held(
+        header,
+        &mut end1,
+        &mut end2,
+        &cost,
+        &mut mark,
+        &ts,
+        &mask,
+        area,
+    )
+}

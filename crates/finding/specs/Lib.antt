@@ -1,0 +1,3 @@
+-- What the finders hand back, and laws about it.
+pub mod Parts
+pub mod PartLaws

@@ -1,0 +1,4 @@
+-- What the judges say, and laws about it.
+pub mod Verdicts
+pub mod VerdictLaws
+pub mod JudgeLaws

@@ -1,0 +1,158 @@
+-- A list is accepted as its frame is, and so is said of it what is said of the frame. Assumes nothing.
+use Prim.Native.Nat.{ℕ, zero, suc, _+_}
+use native.Mathlib.Omega.{arith}
+use mathlib.Core.Path.{_≡_, refl, sym, ap, subst, _∙_}
+use mathlib.Core.Logic.{_≢_, ⊎-map, ⊎-elim}
+use mathlib.Core.Bool.{Bool, true, false}
+use mathlib.Core.List.{List}
+use lib.ListN.{length, take, drop}
+use lib.Seq.{take-at}
+use Rattle.loops.specs.TestLaws.{truth, clash}
+use Rattle.records.specs.declared.Link.{Link}
+use Rattle.frame.specs.Job.{Job, jobNumbers, jobFrame}
+use Rattle.frame.specs.Questions.{jobOf, refusal}
+use Rattle.frame.specs.Services.{Outcome, Place, nowhere, small, written}
+use Rattle.frame.specs.Form.{first-no}
+use Rattle.frame.specs.Lists.{list-read}
+use Rattle.frame.specs.Outcomes.{accepted-written, refused-untouched}
+use Rattle.job.specs.declared.read.Header.{Header}
+use Rattle.job.specs.declared.write.Reply.{Reply}
+use Rattle.job.specs.Writing.{jobAt, outcome}
+use Rattle.job.specs.WritingLaws.{written-refused}
+use Rattle.accept.specs.Accepting.{Asked, refusedHeader}
+use Rattle.accept.specs.AcceptLaws.{accepted-number, accepted-nodes, accepted-edges}
+use Rattle.accept.specs.ListJobs.{countRefusal, Given, ListAccepted}
+use Rattle.accept.specs.ListAcceptLaws.{held-job}
+use Rattle.accept.specs.ListAskedLaws.{numbers-bytes, list-asked, asked-large}
+use Rattle.judging.specs.declared.Verdict.{Verdict}
+use Rattle.judging.specs.declared.Verdict.the-variants.{Refused}
+use Rattle.answering.specs.Answering.{Answered, Untouched}
+use Rattle.answering.specs.AnswerLaws.{number-of, number-zero}
+use Rattle.finding.specs.Parts.{CostLocated}
+use Rattle.lists.specs.ListServices.{ListWritten, ListAnswered, ListJudged, ListCostLocated}
+
+-- ---- a reply by the definition
+
+-- After a refusal it is all one which bytes were to be written.
+written-same : (r : ℕ) (bytes bytes′ area : List ℕ) → (r ≡ 0 → bytes ≡ bytes′) → written r bytes 0 area ≡ written r bytes′ 0 area
+written-same zero bytes bytes′ area e = ap (λ (b : List ℕ). written 0 b 0 area) (e refl)
+written-same (suc r) bytes bytes′ area e = refl
+
+module _ {area : List ℕ} {r : Reply} {after : List ℕ} where
+  -- A refusal leaves the area untouched, and the other way round.
+  untouched : (n : ℕ) (bytes : List ℕ) → n ≢ 0 → outcome r after ≡ written n bytes 0 area → Untouched n area r after
+  untouched n bytes nonzero e =
+      let o = e ∙ sym (written-refused n bytes 0 area nonzero) in
+      record { number = ap (λ (o : Outcome). o .refusal) o; nothing = ap (λ (o : Outcome). o .size) o; same = ap (λ (o : Outcome). o .area) o }
+
+  pub untouched-written : (n : ℕ) (bytes : List ℕ) → n ≢ 0 → Untouched n area r after → outcome r after ≡ written n bytes 0 area
+  untouched-written n bytes nonzero u =
+      let left : outcome r after ≡ record { refusal = n; size = 0; area = area } = λ i. record { refusal = u .number i; size = u .nothing i; area = u .same i } in
+      left ∙ written-refused n bytes 0 area nonzero
+
+-- What the writer promises follows from its reply to a job whose numbers are small.
+module _ (j : Job) (y : small j ≡ true) (area : List ℕ) (r : Reply) (after : List ℕ) (e : outcome r after ≡ written (refusal (jobFrame j)) (jobFrame j) 0 area) where
+  number-is : r .refusal ≡ written (refusal (jobFrame j)) (jobFrame j) 0 area .refusal
+  number-is = ap (λ (o : Outcome). o .refusal) e
+
+  reads-back : r .refusal ≡ 0 → (refusal (take (r .length) after) ≡ 0) × (jobOf (take (r .length) after) ≡ j)
+  reads-back z =
+      let bytes = jobFrame j in
+      let number : written (refusal bytes) bytes 0 area .refusal ≡ 0 = sym number-is ∙ z in
+      let whole = e ∙ accepted-written bytes 0 area (refusal bytes) number in
+      let size : r .length ≡ length bytes = ap (λ (o : Outcome). o .size) whole in
+      let front : take (r .length) after ≡ bytes = ap (λ (o : Outcome). take (r .length) (o .area)) whole ∙ take-at bytes (drop (0 + length bytes) area) (r .length) (sym size) in
+      (ap refusal front ∙ number-zero (refusal bytes) bytes area number, ap jobOf front ∙ list-read j y)
+
+  pub small-written : ListWritten j area r after
+  small-written =
+      record {
+        large = λ f. clash y f;
+        said = λ _. e;
+        first = λ _. first-no (jobFrame j) (numbers-bytes (jobNumbers j));
+        number = λ _. ⊎-map (λ q. number-is ∙ q) (λ q. (q .0, number-is ∙ q .1, q .2)) (number-of (refusal (jobFrame j)) (jobFrame j) area);
+        refused = λ n.
+            let (z, same) = refused-untouched (jobFrame j) 0 area (refusal (jobFrame j)) (λ z. n (number-is ∙ z)) in
+            (ap (λ (o : Outcome). o .size) e ∙ z, ap (λ (o : Outcome). o .area) e ∙ same);
+        reads = reads-back;
+      }
+
+-- A list with a large number is refused by question 1.
+pub large-written : (j : Job) → small j ≡ false → (area : List ℕ) (r : Reply) (after : List ℕ) → Untouched 1 area r after → ListWritten j area r after
+large-written j f area r after u =
+    record {
+      large = λ _. u;
+      said = λ y. clash y f;
+      first = λ y. clash y f;
+      number = λ y. clash y f;
+      refused = λ _. (u .nothing, u .same);
+      reads = λ z. absurd (omega (arith, z, u .number));
+    }
+
+-- ---- a list that was accepted or refused
+
+module _ {h : Header} {as₁ as₂ as₃ as₄ ts mask : List ℕ} (j : Job) (a : ListAccepted j h as₁ as₂ as₃ as₄ ts mask) where
+  list-judged : (Judged : List ℕ → Verdict → Type 0) (r : Verdict) → ((s : List ℕ) → Asked s h as₁ as₂ as₃ as₄ ts mask → Judged s r) → (h .refusal ≢ 0 → r ≡ Refused (h .refusal)) → ListJudged j Judged r
+  list-judged Judged r said refused =
+      record {
+        large = λ n. let one = asked-large j n a in refused (λ z. omega (arith, one, z)) ∙ ap Refused one;
+        said = λ y. said (jobFrame j) (list-asked j y a);
+      }
+
+  list-answered : (area : List ℕ) (r : Reply) (after : List ℕ) → ((s : List ℕ) → Asked s h as₁ as₂ as₃ as₄ ts mask → Answered s area r after) → (h .refusal ≢ 0 → Untouched (h .refusal) area r after) → ListAnswered j area r after
+  list-answered area r after said refused =
+      record {
+        large = λ n. let one = asked-large j n a in subst (λ (x : ℕ). Untouched x area r after) one (refused (λ z. omega (arith, one, z)));
+        said = λ y. said (jobFrame j) (list-asked j y a);
+      }
+
+  list-located : (f : List ℕ) (e : ℕ) (place : Place) → ((s : List ℕ) → Asked s h as₁ as₂ as₃ as₄ ts mask → CostLocated s f e place) → (h .refusal ≢ 0 → place ≡ nowhere) → ListCostLocated j f e place
+  list-located f e place said refused =
+      record {
+        large = λ n. let one = asked-large j n a in refused (λ z. omega (arith, one, z));
+        said = λ y. said (jobFrame j) (list-asked j y a);
+      }
+
+  module _ (area : List ℕ) (r : Reply) (after : List ℕ) (e : outcome r after ≡ written (h .refusal) (jobFrame (jobAt (h .nodes) (h .edges) as₁ as₂ as₃ as₄)) 0 area) where
+    held-frame : small j ≡ true → h .refusal ≡ 0 → jobFrame (jobAt (h .nodes) (h .edges) as₁ as₂ as₃ as₄) ≡ jobFrame j
+    held-frame y z =
+        ap jobFrame (held-job (jobOf (jobFrame j)) (h .nodes) (h .edges) as₁ as₂ as₃ as₄ ts mask (a .held y z) (accepted-nodes (jobFrame j) h (a .header y) z) (accepted-edges (jobFrame j) h (a .header y) z) ∙ list-read j y)
+
+    frame-said : small j ≡ true → outcome r after ≡ written (refusal (jobFrame j)) (jobFrame j) 0 area
+    frame-said y =
+        e ∙ written-same (h .refusal) (jobFrame (jobAt (h .nodes) (h .edges) as₁ as₂ as₃ as₄)) (jobFrame j) area (held-frame y) ∙
+        ap (λ (k : ℕ). written k (jobFrame j) 0 area) (sym (accepted-number (jobFrame j) h (a .header y)))
+
+    list-written : ListWritten j area r after
+    list-written =
+        let bytes = jobFrame (jobAt (h .nodes) (h .edges) as₁ as₂ as₃ as₄) in
+        ⊎-elim
+        (λ y. small-written j y area r after (frame-said y))
+        (λ f. large-written j f area r after (untouched 1 bytes (λ z. omega (arith, z)) (e ∙ ap (λ (n : ℕ). written n bytes 0 area) (asked-large j f a))))
+        (truth (small j))
+
+-- ---- what was given of a list was accepted or refused
+
+module _ {nodes count : ℕ} {word : Bool} {links : List Link} {h : Header} {as₁ as₂ as₃ as₄ ts mask : List ℕ}
+    (g : Given nodes count word links (λ n. h ≡ refusedHeader n) (λ j. ListAccepted j h as₁ as₂ as₃ as₄ ts mask)) where
+  -- What is said of a refusal is said of one by the word or by the counts.
+  early : (P : ℕ → Type 0) → (h .refusal ≢ 0 → P (h .refusal)) → countRefusal nodes count word ≢ 0 → P (countRefusal nodes count word)
+  early P refused n =
+      let e : h .refusal ≡ countRefusal nodes count word = ap (λ (h : Header). h .refusal) (g .refused n) in
+      subst P e (refused (λ z. n (sym e ∙ z)))
+
+  pub given-judged : (Judged : List ℕ → Verdict → Type 0) (r : Verdict) → ((s : List ℕ) → Asked s h as₁ as₂ as₃ as₄ ts mask → Judged s r) → (h .refusal ≢ 0 → r ≡ Refused (h .refusal)) → Given nodes count word links (λ n. r ≡ Refused n) (λ j. ListJudged j Judged r)
+  given-judged Judged r said refused = record { refused = early (λ n. r ≡ Refused n) refused; said = λ z. list-judged _ (g .said z) Judged r said refused }
+
+  pub given-answered : (area : List ℕ) (r : Reply) (after : List ℕ) → ((s : List ℕ) → Asked s h as₁ as₂ as₃ as₄ ts mask → Answered s area r after) → (h .refusal ≢ 0 → Untouched (h .refusal) area r after) → Given nodes count word links (λ n. Untouched n area r after) (λ j. ListAnswered j area r after)
+  given-answered area r after said refused = record { refused = early (λ n. Untouched n area r after) refused; said = λ z. list-answered _ (g .said z) area r after said refused }
+
+  pub given-located : (f : List ℕ) (e : ℕ) (place : Place) → ((s : List ℕ) → Asked s h as₁ as₂ as₃ as₄ ts mask → CostLocated s f e place) → (h .refusal ≢ 0 → place ≡ nowhere) → Given nodes count word links (λ _. place ≡ nowhere) (λ j. ListCostLocated j f e place)
+  given-located f e place said refused = record { refused = early (λ _. place ≡ nowhere) refused; said = λ z. list-located _ (g .said z) f e place said refused }
+
+  pub given-written : (area : List ℕ) (r : Reply) (after : List ℕ) → outcome r after ≡ written (h .refusal) (jobFrame (jobAt (h .nodes) (h .edges) as₁ as₂ as₃ as₄)) 0 area → Given nodes count word links (λ n. Untouched n area r after) (λ j. ListWritten j area r after)
+  given-written area r after e =
+      record {
+        refused = early (λ n. Untouched n area r after) (λ n. untouched (h .refusal) (jobFrame (jobAt (h .nodes) (h .edges) as₁ as₂ as₃ as₄)) n e);
+        said = λ z. list-written _ (g .said z) area r after e;
+      }

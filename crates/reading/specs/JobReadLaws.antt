@@ -1,0 +1,106 @@
+-- The links of four arrays gathered as records; what is read of a job frame is its job. Assumes nothing.
+use Prim.Native.Nat.{ℕ, zero, suc, _+_, _<_, _≤_, min}
+use native.Mathlib.Nat.{suc-sub-suc}
+use native.Mathlib.Omega.{arith}
+use mathlib.Core.Path.{_≡_, refl, sym, ap, _∙_}
+use mathlib.Core.List.{List, [], _∷_, map}
+use lib.ListN.{length, getD, set, take, replicate, List·getD-map}
+use lib.Seq.{ext-getD}
+use Rattle.loops.specs.Loop.{tabulate}
+use Rattle.loops.specs.GatherLaws.{length-tabulate, getD-tabulate}
+use Rattle.leb128.specs.Number.{Bytes}
+use Rattle.frame.specs.Job.{Edge, Job, noEdge, link, jobFrame}
+use Rattle.frame.specs.Questions.{jobOf, refusal}
+use Rattle.frame.specs.Form.{first-no}
+use Rattle.frame.specs.Accepted.{accepted, write-read6}
+use Rattle.records.specs.declared.Link.{Link}
+use Rattle.records.specs.Records.{zeroLink, firsts, copied}
+use Rattle.records.specs.RecordsLaws.{copied-none, copied-more, copied-all, firsts-length, firsts-at}
+use Rattle.accept.specs.Accepting.{Held}
+use Rattle.accept.specs.ListJobs.{edgeOf}
+use Rattle.reading.specs.JobsRead.{linkOf, gathered, refusedRead, givenOf, jobIn, JobGiven}
+use Rattle.reading.specs.declared.JobRead.{JobRead}
+
+-- ---- gathering
+
+-- As many links as are asked for.
+whole : (n : ℕ) (ys : List Link) → length ys ≡ n → firsts n ys ≡ ys
+whole n ys l = ext-getD zeroLink (firsts n ys) ys (firsts-length n ys ∙ sym l) λ e k. firsts-at n ys e (omega (arith, firsts-length n ys))
+
+module _ (n : ℕ) (as₁ as₂ as₃ as₄ : List ℕ) where
+  row : ℕ → Link
+  row e = record { end1 = getD as₁ e 0; end2 = getD as₂ e 0; cost = getD as₃ e 0; mark = getD as₄ e 0 }
+
+  -- The first e links are gathered.
+  pub record Gathering (links : List Link) (e : ℕ) : Type 0 where
+    pub within : e ≤ n
+    pub is : links ≡ copied n e (gathered n as₁ as₂ as₃ as₄)
+
+  pub gather-start : Gathering (replicate n zeroLink) 0
+  gather-start = record { within = omega arith; is = sym (copied-none n (gathered n as₁ as₂ as₃ as₄)) }
+
+  pub gather-turn : (links : List Link) (e : ℕ) → e < n → Gathering links e → Gathering (set links e (record { end1 = getD as₁ e 0; end2 = getD as₂ e 0; cost = getD as₃ e 0; mark = getD as₄ e 0 })) (e + 1)
+  unfolding row
+  gather-turn links e l g =
+      let ys = gathered n as₁ as₂ as₃ as₄ in
+      let here : getD ys e zeroLink ≡ row e = getD-tabulate row n e zeroLink l in
+      record {
+        within = omega arith;
+        is = (λ i. set (g .is i) e (sym here i)) ∙ copied-more n e ys l (omega (arith, length-tabulate row n));
+      }
+
+  pub gather-end : (links : List Link) (e : ℕ) → n ≤ e → Gathering links e → links ≡ gathered n as₁ as₂ as₃ as₄
+  unfolding row
+  gather-end links e l g =
+      let ys = gathered n as₁ as₂ as₃ as₄ in
+      let size : length ys ≡ n = length-tabulate row n in
+      let all : e ≡ min (length ys) n = omega (arith, g .within, size) in
+      g .is ∙ ap (λ (k : ℕ). copied n k ys) all ∙ copied-all n ys ∙ whole n ys size
+
+-- ---- a job's links as records
+
+-- Arrays that hold a job, gathered, are its links as records.
+pub gathered-held :
+    (n : ℕ) (j : Job) (as₁ as₂ as₃ as₄ ts mask : List ℕ) → Held j as₁ as₂ as₃ as₄ ts mask → gathered n as₁ as₂ as₃ as₄ ≡ firsts n (map linkOf (j .links))
+gathered-held n j as₁ as₂ as₃ as₄ ts mask h =
+    let ls = j .links in
+    let f : ℕ → Link = λ e. linkOf (link j e) in
+    (λ i. tabulate n λ e. record { end1 = h .end₁ i e; end2 = h .end₂ i e; cost = h .cost i e; mark = h .mark i e }) ∙
+    ext-getD zeroLink (tabulate n f) (firsts n (map linkOf ls)) (length-tabulate f n ∙ sym (firsts-length n (map linkOf ls)))
+    λ e l. let k : e < n = omega (arith, length-tabulate f n) in
+    getD-tabulate f n e zeroLink k ∙ sym (firsts-at n (map linkOf ls) e k ∙ List·getD-map linkOf ls e noEdge)
+
+-- The links that were read, as the job's.
+taken-back : (n : ℕ) (ls : List Edge) → length ls ≤ n → map edgeOf (take (length ls) (firsts n (map linkOf ls))) ≡ ls
+unfolding firsts
+taken-back n [] h = refl
+taken-back zero (l ∷ ls) h = absurd (omega arith)
+taken-back (suc n) (l ∷ ls) h = rw (suc-sub-suc n (length (map linkOf ls))) (ap {B = List Edge} (λ r. l ∷ r) (taken-back n ls (omega arith)))
+
+given-back : (j : Job) → length (j .links) ≤ 256 → jobIn (givenOf 0 j) ≡ j
+unfolding givenOf
+given-back j h i = record { nodes = j .nodes; links = taken-back 256 (j .links) h i }
+
+-- ---- what is read of a frame
+
+pub given-refused : (r n : ℕ) (j : Job) → r ≡ n → (n ≡ 0 → ⊥) → refusedRead n ≡ givenOf r j
+unfolding givenOf
+given-refused zero n j e z = absurd (z (sym e))
+given-refused (suc r) n j e z = ap refusedRead (sym e)
+
+pub given-job :
+    (r n m : ℕ) (links : List Link) (j : Job) →
+    r ≡ 0 →
+    n ≡ j .nodes →
+    m ≡ length (j .links) →
+    links ≡ firsts 256 (map linkOf (j .links)) →
+    record { refusal = 0; nodes = n; count = m; links = links } ≡ givenOf r j
+unfolding givenOf
+given-job r n m links j z pn pm pl =
+    (λ i. record { refusal = 0; nodes = pn i; count = pm i; links = pl i }) ∙ ap (λ (k : ℕ). givenOf k j) (sym z)
+
+pub job-given : (s : List ℕ) → Bytes s → (r : JobRead) → r ≡ givenOf (refusal s) (jobOf s) → JobGiven s r
+job-given s b r e =
+    let job : refusal s ≡ 0 → jobIn r ≡ jobOf s
+    = λ z. ap jobIn (e ∙ ap (λ (k : ℕ). givenOf k (jobOf s)) z) ∙ given-back (jobOf s) (accepted s b z .edge-limit) in
+    record { said = e; first = first-no s b; job = job; again = λ z. ap jobFrame (job z) ∙ write-read6 s b z }

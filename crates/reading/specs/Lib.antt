@@ -1,0 +1,3 @@
+-- What is read of job and answer frames, and laws about it.
+pub mod JobsRead
+pub mod JobReadLaws

@@ -1,0 +1,104 @@
+// Finds the best costs of an accepted job that is held in arrays: the matching, the lowest new costs, the pairs.
+ghost use mathlib.Core.Path.{_≡_};
+ghost use lib.ListN.{length};
+ghost use Rattle.solve.specs.Solving.{Costable, Costed, Solvable, SolvedAs};
+
+// The lowest new costs of the matching in `mates`, put at their links.
+fn new_costs(
+    trees: u32,
+    spares: usize,
+    cost: &[u32; 256],
+    ts: &[u32; 256],
+    ss: &[u32; 256],
+    rows: &[u64; 256],
+    taken: &[u64; 4],
+    mates: &mut [u32; 256],
+    spare_label: &mut [u32; 256],
+    costs: &mut [u32; 256],
+)
+    requires { ⌜ Costable trees spares (now cost) (now ts) (now ss) (now taken) (now mates) (now «spare_label») (now costs) ⌝ }
+    ensures { λ r. ⌜ Costed trees spares (now (cost .entry)) (now (ts .entry)) (now (ss .entry)) (now (rows .entry)) (now (mates .entry)) (now (mates .exit)) (now (costs .exit)) ⌝ }
+{
+    let mut tree_label = [0u32; 64];
+    labels::label(
+        trees,
+        spares as u32,
+        cost,
+        ts,
+        ss,
+        rows,
+        taken,
+        mates,
+        &mut tree_label,
+        spare_label,
+    );
+    solution::place(ts, trees as usize, &tree_label, costs);
+    solution::place(ss, spares, spare_label, costs);
+}
+
+// The step count, and how many pairs are listed.
+pub struct Solved {
+    pub steps: u32,
+    pub count: usize,
+}
+
+// The answer to an accepted job in arrays: its new costs and its pairs, rising by tree link. Once the rows are filled, the
+// arrays of ends and marks serve as room: for the mates, for the labels of the spare ranks and for the mate of each link.
+pub fn solve(
+    nodes: u32,
+    edges: usize,
+    end1: &mut [u32; 256],
+    end2: &mut [u32; 256],
+    cost: &[u32; 256],
+    mark: &mut [u32; 256],
+    ts: &[u32; 256],
+    mask: &[u64; 64],
+    costs: &mut [u32; 256],
+    pair_tree: &mut [u32; 64],
+    pair_spare: &mut [u32; 64],
+) -> Solved
+    requires { ⌜ Solvable nodes edges (now end1) (now end2) (now cost) (now mark) (now ts) (now mask) (now costs) (now «pair_tree») (now «pair_spare») ⌝ }
+    ensures { λ r. ⌜ SolvedAs nodes edges (now (end1 .entry)) (now (end2 .entry)) (now (cost .entry)) (now (mark .entry)) (now (ts .entry)) (now (mask .entry)) (r .steps) (r .count) (now (costs .exit)) (now («pair_tree» .exit)) (now («pair_spare» .exit)) ⌝ }
+{
+    let trees = nodes - 1;
+    let mut ss = [0u32; 256];
+    let spares = ranks::spare_ranks(edges, cost, mark, &mut ss);
+    let mut rows = [0u64; 256];
+    solution::fill_rows(trees, spares, cost, ts, &ss, end1, end2, mask, &mut rows);
+    let mates = end1;
+    *mates = [0u32; 256];
+    let mut taken = [0u64; 4];
+    matching::build(
+        trees,
+        spares as u32,
+        cost,
+        ts,
+        &ss,
+        &rows,
+        mates,
+        &mut taken,
+    );
+    let spare_label = end2;
+    *spare_label = [0u32; 256];
+    new_costs(
+        trees,
+        spares,
+        cost,
+        ts,
+        &ss,
+        &rows,
+        &taken,
+        mates,
+        spare_label,
+        costs,
+    );
+    let mate = mark;
+    *mate = [0u32; 256];
+    solution::partners(ts, &ss, spares, mates, mate);
+    let steps = solution::steps(edges, cost, costs);
+    let count = answer::write::list_pairs(edges, mate, pair_tree, pair_spare);
+    Solved {
+        steps: steps as u32,
+        count: count,
+    }
+}
