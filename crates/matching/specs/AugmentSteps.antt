@@ -115,7 +115,7 @@ module _
     (cost ts ss rows mates taken : List ℕ)
     (trees : ℕ)
     (live : List ℕ)
-    (r : Ready t spares ts ss mates taken live)
+    (r : Ready t spares ts ss mates taken trees live)
     (c : ℕ)
     (lowest : c ≡ first 256 (λ s. not (member taken s)))
   where
@@ -139,14 +139,16 @@ module _
           taken-length = r .taken-length;
           live-length = r .live-length;
           below = λ n k b. b;
+          unseen = λ n k b u. u;
           taken-are = r .taken-are;
           equal = λ p h b l. sym (augment-none p t pr (worth-same p spares cost ts ss rows h t l _ _ (cheapest-same p h) c cheapest-first ∙ off));
         }
 
     module _ (on : gain spares cost ts ss t c ≡ true) where
-      pub cheapest-seekable : Seekable t c mates taken live
+      pub cheapest-seekable : Seekable t c mates taken trees live
       cheapest-seekable =
           record {
+            fresh = r .fresh;
             ready = record { rank = r .rank; mates-length = r .mates-length; live-length = r .live-length; below = r .below };
             taken-length = r .taken-length;
             taken-are = r .taken-are;
@@ -178,6 +180,7 @@ module _
                 taken-length = first-search .taken-length;
                 live-length = size;
                 below = first-search .below;
+                unseen = λ n k b u. u;
                 taken-are = first-search .taken-are;
                 equal = λ p h b l.
                     ap (λ (f : ℕ → Bool). record { mates = matesOf mates₁; treeDead = bit trees; spareLive = f }) (member-put live live′ c more)
@@ -247,6 +250,7 @@ module _
                     taken-length = first-search .taken-length;
                     live-length = first-search .live-length;
                     below = first-search .below;
+                    unseen = first-search .unseen;
                     taken-are = first-search .taken-are;
                     equal = λ p h b l.
                         ap₂ (λ (f : Mates) (v : ℕ → Bool). record { mates = f; treeDead = bit trees₁; spareLive = v }) same (fun-ext (λ s. sym (Bool·not-not (member live₁ s))))
@@ -255,9 +259,10 @@ module _
                   }
 
               module _ (gains : gain spares cost ts ss t g ≡ true) where
-                pub goal-seekable : Seekable t g mates₁ taken₁ live
+                pub goal-seekable : Seekable t g mates₁ taken₁ trees live
                 goal-seekable =
                     record {
+                      fresh = r .fresh;
                       ready = record {
                         rank = r .rank;
                         mates-length = first-search .mates-length;
@@ -278,6 +283,7 @@ module _
                       taken-length = second-search .taken-length;
                       live-length = size;
                       below = λ n k b. second-search .below n k (first-search .below n k b);
+                      unseen = λ n k b u. u;
                       taken-are = second-search .taken-are;
                       equal = λ p h b l.
                           let is = found-worth p spares cost ts ss rows h t l _ _ (goal-same p h b l) g goal-first gains in

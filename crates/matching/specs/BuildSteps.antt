@@ -14,7 +14,7 @@ use Rattle.sets.specs.Sets.{member}
 use Rattle.sets.specs.SetsLaws.{member-none}
 use Rattle.optimum.specs.Search.{Problem, Mates, Progress, augment, unmatched}
 use Rattle.search.specs.State.{Below, Taken}
-use Rattle.matching.specs.Progress.{progressOf, Holds, Ready, Augmented, Buildable, Built}
+use Rattle.matching.specs.Progress.{progressOf, Holds, Unseen, Ready, Augmented, Buildable, Built}
 
 -- What the loop keeps.
 pub record Building (trees spares : ℕ) (cost ts ss rows mates taken : List ℕ) (dead-trees : ℕ) (live : List ℕ) (t : ℕ) : Type 0 where
@@ -22,7 +22,8 @@ pub record Building (trees spares : ℕ) (cost ts ss rows mates taken : List ℕ
   pub mates-length : length mates ≡ 256
   pub taken-length : length taken ≡ 4
   pub live-length : length live ≡ 4
-  pub below : Below trees mates
+  pub below : Below t mates
+  pub unseen : Unseen t dead-trees
   pub taken-are : Taken mates taken
   pub equal :
       (p : Problem) → p .trees ≡ trees → Holds p spares cost ts ss rows
@@ -42,22 +43,24 @@ module _ (trees spares : ℕ) (cost ts ss rows mates taken : List ℕ) (h : Buil
         taken-length = h .taken-length;
         live-length = length-replicate {A = ℕ} 4 0;
         below = λ s. omega (arith, h .empty s);
+        unseen = λ u _. bit-zero u;
         taken-are = λ s l. rw (h .none-taken s, h .empty s);
         equal = λ p e q. scan-start (augment p) trees (progressOf mates 0 (replicate 4 0)) ∙ ap (scan (augment p) trees 0) empty-is;
       }
 
 module _ (trees spares : ℕ) (cost ts ss rows mates taken : List ℕ) (dead-trees : ℕ) (live : List ℕ) (t : ℕ) (h : Building trees spares cost ts ss rows mates taken dead-trees live t) where
-  pub building-ready : (mates₀ taken₀ : List ℕ) → Buildable trees spares ts ss mates₀ taken₀ → t < trees → Ready t spares ts ss mates taken live
+  pub building-ready : (mates₀ taken₀ : List ℕ) → Buildable trees spares ts ss mates₀ taken₀ → t < trees → Ready t spares ts ss mates taken dead-trees live
   building-ready mates₀ taken₀ b l =
       record {
         rank = omega (arith, b .few-trees);
+        fresh = h .unseen t (omega arith);
         few = b .few-spares;
         tree-edge = b .tree-edges t l;
         spare-edges = b .spare-edges;
         mates-length = h .mates-length;
         taken-length = h .taken-length;
         live-length = h .live-length;
-        below = λ s. omega (arith, h .below s, b .few-trees);
+        below = λ s. omega (arith, h .below s, b .few-trees, l);
         taken-are = h .taken-are;
       }
 
@@ -70,10 +73,11 @@ module _ (trees spares : ℕ) (cost ts ss rows mates taken : List ℕ) (dead-tre
         mates-length = a .mates-length;
         taken-length = a .taken-length;
         live-length = a .live-length;
-        below = a .below trees l (h .below);
+        below = a .below (t + 1) (omega arith) (λ s. omega (arith, h .below s));
+        unseen = a .unseen (t + 1) (omega arith) (λ s. omega (arith, h .below s)) (λ u k. h .unseen u (omega arith));
         taken-are = a .taken-are;
         equal = λ p e q.
-            ap (scan (augment p) (trees - (t + 1)) (t + 1)) (a .equal p q (rw e (h .below)) (rw e l))
+            ap (scan (augment p) (trees - (t + 1)) (t + 1)) (a .equal p q (λ s. omega (arith, h .below s, e)) (rw e l))
             ∙ sym (scan-turn (augment p) trees t (progressOf mates dead-trees live) l)
             ∙ h .equal p e q;
       }
@@ -83,7 +87,7 @@ module _ (trees spares : ℕ) (cost ts ss rows mates taken : List ℕ) (dead-tre
       record {
         mates-length = h .mates-length;
         taken-length = h .taken-length;
-        below = h .below;
+        below = λ s. omega (arith, h .below s, h .within);
         taken-are = h .taken-are;
         equal = λ p e q.
             ap (λ (pr : Progress). pr .mates)

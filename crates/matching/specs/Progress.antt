@@ -35,8 +35,13 @@ pub record Holds (p : Problem) (spares : ℕ) (cost ts ss rows : List ℕ) : Typ
 abbrev pub gain : ℕ → List ℕ → List ℕ → List ℕ → ℕ → ℕ → Bool
 gain spares cost ts ss t goal = ltb goal spares && ltb (costAt cost ss goal) (costAt cost ts t)
 
+-- No tree rank from n on was seen.
+abbrev pub Unseen : ℕ → ℕ → Type 0
+Unseen n trees = (t : ℕ) → n ≤ t → bit trees t ≡ false
+
 -- What matching tree rank t to a goal needs.
-pub record Seekable (t goal : ℕ) (mates taken live : List ℕ) : Type 0 where
+pub record Seekable (t goal : ℕ) (mates taken : List ℕ) (trees : ℕ) (live : List ℕ) : Type 0 where
+  pub fresh : bit trees t ≡ false
   pub ready : S.Ready t mates live
   pub taken-length : length taken ≡ 4
   pub taken-are : Taken mates taken
@@ -48,6 +53,7 @@ pub record Sought (t goal : ℕ) (rows mates : List ℕ) (trees : ℕ) (live mat
   pub taken-length : length taken′ ≡ 4
   pub live-length : length live′ ≡ 4
   pub below : (n : ℕ) → t < n → Below n mates → Below n mates′
+  pub unseen : (n : ℕ) → t < n → Below n mates → Unseen n trees → Unseen n trees′
   pub taken-are : Taken mates′ taken′
   pub same : met ≡ false → matesOf mates′ ≡ matesOf mates
   pub equal :
@@ -55,8 +61,9 @@ pub record Sought (t goal : ℕ) (rows mates : List ℕ) (trees : ℕ) (live mat
       → stateOf mates′ trees′ live′ met ≡ search p goal t (stateOf mates trees live false)
 
 -- What matching one more tree rank needs.
-pub record Ready (t spares : ℕ) (ts ss mates taken live : List ℕ) : Type 0 where
+pub record Ready (t spares : ℕ) (ts ss mates taken : List ℕ) (trees : ℕ) (live : List ℕ) : Type 0 where
   pub rank : t < 64
+  pub fresh : bit trees t ≡ false
   pub few : spares ≤ 256
   pub tree-edge : getD ts t 0 < 256
   pub spare-edges : Edges spares ss
@@ -72,6 +79,7 @@ pub record Augmented (t spares : ℕ) (cost ts ss rows mates : List ℕ) (trees 
   pub taken-length : length taken′ ≡ 4
   pub live-length : length live′ ≡ 4
   pub below : (n : ℕ) → t < n → Below n mates → Below n mates′
+  pub unseen : (n : ℕ) → t < n → Below n mates → Unseen n trees → Unseen n trees′
   pub taken-are : Taken mates′ taken′
   pub equal :
       (p : Problem) → Holds p spares cost ts ss rows → Below (p .trees) mates → t < p .trees

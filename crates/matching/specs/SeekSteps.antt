@@ -15,7 +15,8 @@ use Rattle.loops.specs.PutLaws.{put-same, put-other}
 use Rattle.sets.specs.Sets.{member}
 use Rattle.optimum.specs.Search.{Problem, Mates, Search, search}
 use Rattle.optimum.specs.SearchLaws.{AugmentingPath, stop, via, Explored, Always, kept-always, search-fails, search-turns}
-use Rattle.search.specs.State.{matesOf, stateOf, Taken, TreeTried}
+use Rattle.search.specs.State.{matesOf, stateOf, Below, Taken, TreeTried}
+use Rattle.search.specs.Growth.{Reached}
 use Rattle.search.specs.TreeSteps.{rowsProblem, rows-problem, tree-reached}
 use Rattle.search.specs.ExploreSteps.{taken-same}
 use Rattle.matching.specs.Progress.{Seekable, Sought}
@@ -51,7 +52,7 @@ module _
     (rows mates taken : List ℕ)
     (trees : ℕ)
     (live : List ℕ)
-    (able : Seekable t goal mates taken live)
+    (able : Seekable t goal mates taken trees live)
     (mates′ : List ℕ)
     (trees′ : ℕ)
     (live′ : List ℕ)
@@ -74,6 +75,10 @@ module _
     mate-below : (s u : ℕ) → s < 256 → matesOf mates s ≡ suc u → u < 64
     mate-below s u k e = omega (arith, able .ready .below s)
 
+    reached : (n : ℕ) → t < n → Below n mates → Reached n start (stateOf mates′ trees′ live′ met)
+    reached =
+        tree-reached t goal rows mates trees live mates′ trees′ live′ met (able .ready .rank) (able .ready .below) tried
+
     module _ (b : Bool) (is : met ≡ b) where
       sought : (taken′ : List ℕ) → length taken′ ≡ 4 → Taken mates′ taken′ → (b ≡ false → matesOf mates′ ≡ matesOf mates)
           → Sought t goal rows mates trees live mates′ taken′ trees′ live′ b
@@ -82,8 +87,8 @@ module _
             mates-length = tried .mates-length;
             taken-length = e;
             live-length = tried .live-length;
-            below = λ n k c.
-                tree-reached t goal rows mates trees live mates′ trees′ live′ met (able .ready .rank) (able .ready .below) tried n k c .below;
+            below = λ n k c. reached n k c .below;
+            unseen = λ n k c u s m. reached n k c .past s m (u s m);
             taken-are = are;
             same = same;
             equal = λ q r c l. ap (stateOf mates′ trees′ live′) (sym is) ∙ tried .equal q (q .trees) r c l (omega arith);

@@ -36,7 +36,7 @@ fn seek(
     tree_seen: &mut u64,
     live: &mut [u64; 4],
 ) -> bool
-    requires { ⌜ Seekable (t .0) (goal .0) (now mates) (now taken) (now live) ⌝ }
+    requires { ⌜ Seekable (t .0) (goal .0) (now mates) (now taken) (now «tree_seen») (now live) ⌝ }
     ensures { λ r. ⌜ Sought (t .0) (goal .0) (now (rows .entry)) (now (mates .entry)) (now («tree_seen» .entry)) (now (live .entry)) (now (mates .exit)) (now (taken .exit)) (now («tree_seen» .exit)) (now (live .exit)) r ⌝ }
 {
     if search::try_tree(t, goal, rows, mates, tree_seen, live) {
@@ -60,7 +60,7 @@ fn augment(
     tree_dead: &mut u64,
     live: &mut [u64; 4],
 )
-    requires { ⌜ Ready (t .0) spares (now ts) (now ss) (now mates) (now taken) (now live) ⌝ }
+    requires { ⌜ Ready (t .0) spares (now ts) (now ss) (now mates) (now taken) (now «tree_dead») (now live) ⌝ }
     ensures { λ r. ⌜ Augmented (t .0) spares (now (cost .entry)) (now (ts .entry)) (now (ss .entry)) (now (rows .entry)) (now (mates .entry)) (now («tree_dead» .entry)) (now (live .entry)) (now (mates .exit)) (now (taken .exit)) (now («tree_dead» .exit)) (now (live .exit)) ⌝ }
 {
     let cheapest = sets::lowest_free(taken);

@@ -1,5 +1,5 @@
--- What every step of a search keeps: no mate passes a bound, what was visited stays visited, and until the goal is met the
--- same ranks are matched. Assumes nothing.
+-- What every step of a search keeps: no mate passes a bound, what was visited stays visited, no tree rank past the bound is
+-- newly visited, and until the goal is met the same ranks are matched. Assumes nothing.
 use Prim.Native.Nat.{ℕ, zero, suc, _≤_, _<_}
 use native.Mathlib.Decide.{ℕ-discrete}
 use native.Mathlib.Omega.{arith}
@@ -17,11 +17,12 @@ pub record Reached (n : ℕ) (base st : Search) : Type 0 where
   pub below : (s : ℕ) → st .mates s ≤ n
   pub trees : (t : ℕ) → base .treeSeen t ≡ true → st .treeSeen t ≡ true
   pub spares : (s : ℕ) → base .spareSeen s ≡ true → st .spareSeen s ≡ true
+  pub past : (t : ℕ) → n ≤ t → base .treeSeen t ≡ false → st .treeSeen t ≡ false
   pub free : st .met ≡ false → (s : ℕ) → eqb (st .mates s) 0 ≡ eqb (base .mates s) 0
 
 module _ (n : ℕ) where
   pub reached-start : (st : Search) → ((s : ℕ) → st .mates s ≤ n) → Reached n st st
-  reached-start st h = record { below = h; trees = λ t q. q; spares = λ s q. q; free = λ m s. refl }
+  reached-start st h = record { below = h; trees = λ t q. q; spares = λ s q. q; past = λ t k q. q; free = λ m s. refl }
 
   mate-below : (st : Search) (t s : ℕ) → t < n → ((x : ℕ) → st .mates x ≤ n) → (x : ℕ) → put (st .mates) s (suc t) x ≤ n
   mate-below st t s l h x =
@@ -31,12 +32,13 @@ module _ (n : ℕ) where
       ]
 
   module _ (base : Search) where
-    see-tree : (t : ℕ) (st : Search) → Reached n base st → Reached n base (seeTree t st)
-    see-tree t st h =
+    see-tree : (t : ℕ) (st : Search) → t < n → Reached n base st → Reached n base (seeTree t st)
+    see-tree t st l h =
         record {
           below = h .below;
           trees = λ x q. put-kept (st .treeSeen) t x (h .trees x q);
           spares = h .spares;
+          past = λ x k q. put-other (st .treeSeen) t true x (λ e. omega arith) ∙ h .past x k q;
           free = h .free;
         }
 
@@ -46,13 +48,14 @@ module _ (n : ℕ) where
           below = h .below;
           trees = h .trees;
           spares = λ x q. put-kept (st .spareSeen) s x (h .spares x q);
+          past = h .past;
           free = h .free;
         }
 
     -- A matched rank is matched to another.
     rematch : (t s : ℕ) (st : Search) → t < n → eqb (base .mates s) 0 ≡ false → Reached n base st → Reached n base (match t s st)
     rematch t s st l some h =
-        record { below = mate-below st t s l (h .below); trees = h .trees; spares = h .spares; free = still }
+        record { below = mate-below st t s l (h .below); trees = h .trees; spares = h .spares; past = h .past; free = still }
       where
         still : st .met ≡ false → (x : ℕ) → eqb (put (st .mates) s (suc t) x) 0 ≡ eqb (base .mates x) 0
         still m x =
@@ -63,7 +66,7 @@ module _ (n : ℕ) where
 
     goal-met : (t goal : ℕ) (st : Search) → t < n → Reached n base st → Reached n base (reachGoal (match t goal st))
     goal-met t goal st l h =
-        record { below = mate-below st t goal l (h .below); trees = h .trees; spares = h .spares; free = λ m. clash refl m }
+        record { below = mate-below st t goal l (h .below); trees = h .trees; spares = h .spares; past = h .past; free = λ m. clash refl m }
 
     -- The steps, if the visits of mates keep it.
     module _
@@ -113,4 +116,4 @@ module _ (n : ℕ) where
         choose-both (Reached n base) (ltb goal (p .spares) && p .covers t goal) (λ _. reachGoal (match t goal st))
         (λ _. trySpares p (tryTree p goal depth) t (p .spares) (seeTree t st))
         (λ _. goal-met t goal st l h)
-        (λ _. spares-reach (tryTree p goal depth) (tree-reaches p goal depth) p t (p .spares) (seeTree t st) l m (see-tree t st h))
+        (λ _. spares-reach (tryTree p goal depth) (tree-reaches p goal depth) p t (p .spares) (seeTree t st) l m (see-tree t st l h))

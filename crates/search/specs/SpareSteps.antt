@@ -1,6 +1,6 @@
 -- The steps in which a tree rank tries one spare rank: what each change of the arrays is in the model, and each way out
 -- of the code meets the model's. Assumes nothing.
-use Prim.Native.Nat.{ℕ, zero, suc, _+_, _-_, _*_, _≤_, _<_}
+use Prim.Native.Nat.{ℕ, zero, suc, _+_, _-_, _≤_, _<_}
 use native.Mathlib.Decide.{ℕ-discrete}
 use native.Mathlib.Numerals.{add-one}
 use native.Mathlib.Omega.{arith}
@@ -10,15 +10,17 @@ use mathlib.Core.List.{List}
 use lib.Dec.{eqb}
 use lib.ListN.{length, getD, set, length-set}
 use lib.Seq.{getD-set-same, getD-set-other}
+use borrow.Author.Tests.{eq-eqb}
 use Rattle.loops.specs.Loop.{put}
+use Rattle.loops.specs.TestLaws.{clash, and-first, and-second}
 use Rattle.loops.specs.PutLaws.{put-same, put-other}
 use Rattle.bits.specs.Bit.{bit}
 use Rattle.bits.specs.ChangeLaws.{added}
 use Rattle.sets.specs.Sets.{member}
 use Rattle.graph.specs.Graph.{count}
-use Rattle.graph.specs.CountLaws.{count-put, count-below}
+use Rattle.graph.specs.CountLaws.{count-put, count-below, count-within}
 use Rattle.optimum.specs.Search.{Problem, Mates, Search, seeTree, seeSpare, match, follow, tryTree}
-use Rattle.search.specs.State.{matesOf, stateOf, Below, Rows, TreeTried, SpareTried}
+use Rattle.search.specs.State.{matesOf, stateOf, Below, Rows, unvisited, TreeTried, SpareTried}
 
 -- A tree rank, a spare rank marked.
 pub state-tree : (mates : List ℕ) (trees trees′ : ℕ) (live : List ℕ) (t : ℕ)
@@ -68,9 +70,22 @@ deeper n zero u seen l f h =
     absurd (omega (arith, rw f at (count-put n seen u true l), count-below n (put seen u true)))
 deeper n (suc d) u seen l f h = (d, refl, omega (arith, rw f at (count-put n seen u true l)))
 
--- The number of tree ranks not yet seen falls.
-pub tree-falls : (u : ℕ) (seen : ℕ → Bool) → u < 64 → seen u ≡ false → 2 * (64 - count 64 (put seen u true)) + 1 < 2 * (64 - count 64 seen)
-tree-falls u seen l f = omega (arith, rw f at (count-put 64 seen u true l), count-below 64 (put seen u true))
+-- A live spare rank is taken out: fewer ranks are unvisited.
+pub spare-visited : (trees : ℕ) (live live′ : List ℕ) (s : ℕ) → s < 256 → member live s ≡ true
+    → ((j : ℕ) → member live′ j ≡ (member live j && not (eqb s j))) → unvisited trees live′ < unvisited trees live
+spare-visited trees live live′ s l lives marked =
+    omega (
+      arith,
+      rw lives at (count-put 256 (member live) s false l),
+      count-within 256 (member live′) (put (member live) s false) (λ j _. still j),
+    )
+  where
+    still : (j : ℕ) → member live′ j ≡ true → put (member live) s false j ≡ true
+    still j q =
+        elim (ℕ-discrete j s) [
+          | yes e ↦ clash (and-second (member live j) _ (sym (marked j) ∙ q)) (ap not (eq-eqb s j (sym e)))
+          | no d ↦ put-other (member live) s false j d ∙ and-first _ _ (sym (marked j) ∙ q)
+        ]
 
 -- What follows a mate.
 follow-none : (visit : ℕ → Search → Search) (t s mate : ℕ) (st : Search) → mate ≡ 0 → follow visit t s mate st ≡ st

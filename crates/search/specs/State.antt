@@ -36,6 +36,10 @@ pub record Rows (p : Problem) (rows : List ℕ) : Type 0 where
   pub covered : (t s : ℕ) → t < p .trees → s < p .spares → p .covers t s ≡ inRow rows t s
   pub past : (t s : ℕ) → t < p .trees → p .spares ≤ s → s < 256 → inRow rows t s ≡ false
 
+-- How many ranks a search may still visit: the tree ranks not seen and the live spare ranks.
+abbrev pub unvisited : ℕ → List ℕ → ℕ
+unvisited trees live = count 64 (λ t. not (bit trees t)) + count 256 (member live)
+
 -- What a search needs.
 pub record Ready (t : ℕ) (mates live : List ℕ) : Type 0 where
   pub rank : t < 64

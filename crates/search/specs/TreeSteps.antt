@@ -1,6 +1,6 @@
 -- The steps in which a tree rank goes through its spare ranks: the goal, then the live ones, in the model's order.
 -- Assumes nothing.
-use Prim.Native.Nat.{ℕ, zero, suc, _+_, _-_, _*_, _≤_, _<_}
+use Prim.Native.Nat.{ℕ, zero, suc, _+_, _≤_, _<_}
 use native.Mathlib.Numerals.{add-one}
 use native.Mathlib.Decide.{decLt, ℕ-discrete}
 use native.Mathlib.Omega.{arith}
@@ -10,9 +10,9 @@ use mathlib.Core.Bool.{Bool, true, false, not, _&&_, _||_, Bool·not-not}
 use mathlib.Core.List.{List}
 use lib.Dec.{ltb, eqb}
 use lib.ListN.{length, getD, set, length-set}
-use borrow.Author.Tests.{lt-ltb, le-ltb, ltb-true}
+use borrow.Author.Tests.{lt-ltb, le-ltb, ltb-true, eq-eqb, not-true}
 use Rattle.loops.specs.Loop.{choose, put, pick}
-use Rattle.loops.specs.TestLaws.{truth, and-first, and-second, clash}
+use Rattle.loops.specs.TestLaws.{truth, and-first, and-second, or-neither, clash}
 use Rattle.loops.specs.PutLaws.{put-same, put-other, put-kept}
 use Rattle.loops.specs.FirstLaws.{pick-is, pick-same}
 use Rattle.bits.specs.Bit.{bit}
@@ -21,7 +21,7 @@ use Rattle.sets.specs.Sets.{member, inRow}
 use Rattle.graph.specs.Graph.{count}
 use Rattle.graph.specs.CountLaws.{count-put, count-below, count-within}
 use Rattle.optimum.specs.Search.{Problem, Search, seeTree, seeSpare, match, reachGoal, follow, nextSpare, trySpares, tryTree}
-use Rattle.search.specs.State.{stateOf, Below, Rows, TreeTried, SpareTried}
+use Rattle.search.specs.State.{stateOf, Below, Rows, unvisited, TreeTried, SpareTried}
 use Rattle.search.specs.Growth.{Reached, reached-start, follow-reaches, tree-reaches}
 use Rattle.search.specs.SpareSteps.{state-tree, state-match}
 
@@ -152,6 +152,7 @@ pub record Passing (t goal : ℕ) (rows mates₀ : List ℕ) (trees₀ : ℕ) (l
   pub live-length : length live ≡ 4
   pub below : (n : ℕ) → t < n → Below n mates₀ → Below n mates
   pub grown : (u : ℕ) → bit trees₀ u ≡ true → bit trees u ≡ true
+  pub shrunk : (s : ℕ) → member live s ≡ true → member live₀ s ≡ true
   pub equal :
       (p : Problem) (k : ℕ) → Rows p rows → Below (p .trees) mates₀ → t < p .trees
       → p .trees ≤ k + count (p .trees) (bit trees₀)
@@ -173,6 +174,7 @@ module _
           live-length = m;
           below = λ n k b. b;
           grown = λ u q. q;
+          shrunk = λ s q. q;
           equal = λ p k r b c d. (p .spares, omega arith, refl);
         }
 
@@ -192,11 +194,24 @@ module _
               ∙ sym (tree-scans p goal k t (stateOf mates₀ trees live₀ false) (goal-same p rows r t goal c ∙ en .missed));
         }
 
-    -- The number of tree ranks not yet seen falls once t is marked.
-    pub spare-falls : (trees₁ : ℕ) → ((u : ℕ) → bit trees₀ u ≡ true → bit trees₁ u ≡ true)
-        → 2 * (64 - count 64 (bit trees₁)) < 2 * (64 - count 64 (put (bit trees) t true)) + 1
-    spare-falls trees₁ grown =
-        rw (← added (bit trees) (bit trees₀) t (en .marked)) (omega (arith, count-within 64 (bit trees₀) (bit trees₁) (λ u _. grown u)))
+    -- Fewer ranks are unvisited once t is marked, and the turns bring back none.
+    pub tree-visited : t < 64 → bit trees t ≡ false → (mates : List ℕ) (trees₁ : ℕ) (live₁ : List ℕ)
+        → Passing t goal rows mates₀ trees₀ live₀ mates trees₁ live₁ → unvisited trees₁ live₁ < unvisited trees live₀
+    tree-visited rank fresh mates trees₁ live₁ h =
+        omega (
+          arith,
+          rw fresh at (count-put 64 (λ u. not (bit trees u)) t false rank),
+          count-within 64 (λ u. not (bit trees₁ u)) (put (λ u. not (bit trees u)) t false) (λ u _. still u),
+          count-within 256 (member live₁) (member live₀) (λ s _. h .shrunk s),
+        )
+      where
+        still : (u : ℕ) → not (bit trees₁ u) ≡ true → put (λ u. not (bit trees u)) t false u ≡ true
+        still u q =
+            let (out, other) = or-neither (bit trees u) (eqb t u) (sym (en .marked u) ∙ unseen) in
+            put-other (λ u. not (bit trees u)) t false u (λ e. clash (eq-eqb t u (sym e)) other) ∙ ap not out
+          where
+            unseen : bit trees₀ u ≡ false
+            unseen = elim (truth (bit trees₀ u)) [ inl v ↦ clash (h .grown u v) (not-true _ q) | inr v ↦ v ]
 
     -- A turn.
     module _
@@ -240,13 +255,16 @@ module _
                 spare-reached t s goal rows mates trees₁ live₁ mates′ trees′ live′ met rank (h .below 64 rank small) tried n k (h .below n k b)
 
             -- What is live now was live before, and is not s.
+            was : (j : ℕ) → member live′ j ≡ true → member live₁ j ≡ true
+            was j v = elim (truth (member live₁ j)) [
+              | inl q ↦ q
+              | inr q ↦ clash (reached 64 rank small .spares j (put-kept (λ j. not (member live₁ j)) s j (ap not q))) (ap not v)
+            ]
+
             still : (j : ℕ) → member live′ j ≡ true → put (member live₁) s false j ≡ true
             still j v = elim (ℕ-discrete j s) [
               | yes e ↦ clash (reached 64 rank small .spares j (rw e (put-same (λ j. not (member live₁ j)) s true))) (ap not v)
-              | no e ↦ put-other (member live₁) s false j e ∙ elim (truth (member live₁ j)) [
-                | inl q ↦ q
-                | inr q ↦ clash (reached 64 rank small .spares j (put-kept (λ j. not (member live₁ j)) s j (ap not q))) (ap not v)
-              ]
+              | no e ↦ put-other (member live₁) s false j e ∙ was j v
             ]
 
             below-spares : (p : Problem) → Rows p rows → t < p .trees → s < p .spares
@@ -308,6 +326,7 @@ module _
               live-length = tried .live-length;
               below = λ n k b. reached rank small some mates′ trees′ live′ false tried n k b .below;
               grown = λ u q. reached rank small some mates′ trees′ live′ false tried 64 rank small .trees u (h .grown u q);
+              shrunk = λ j q. h .shrunk j (was rank small some mates′ trees′ live′ false tried j q);
               equal = go-on rank small some mates′ trees′ live′ false tried;
             }
 

@@ -2,10 +2,11 @@
 use ids::SpareRank;
 use ids::TreeRank;
 ghost use mathlib.Core.Path.{_≡_};
-ghost use mathlib.Core.Bool.{_&&_};
+ghost use mathlib.Core.Bool.{true, false, _&&_};
 ghost use Prim.Native.Nat.{_<_};
 ghost use lib.Dec.{ltb};
-ghost use Rattle.sets.specs.Sets.{inRow};
+ghost use Rattle.bits.specs.Bit.{bit};
+ghost use Rattle.sets.specs.Sets.{inRow, member};
 ghost use Rattle.search.specs.State.{Ready, TreeTried, SpareTried, Swept};
 
 // Does the goal cover tree rank `t`? There is no goal if it is 256.
@@ -19,8 +20,8 @@ fn goal_covers(goal: SpareRank, t: TreeRank, rows: &[u64; 256]) -> bool
     false
 }
 
-// Tree rank `t` is matched to the goal, if that covers it. Else it tries the live spare ranks that cover it, the dearest
-// first, until one leads to the goal.
+// Tree rank `t`, which was not seen, is matched to the goal, if that covers it. Else it tries the live spare ranks that
+// cover it, the dearest first, until one leads to the goal.
 pub fn try_tree(
     t: TreeRank,
     goal: SpareRank,
@@ -29,7 +30,7 @@ pub fn try_tree(
     tree_seen: &mut u64,
     live: &mut [u64; 4],
 ) -> bool
-    requires { ⌜ Ready (t .0) (now mates) (now live) ⌝ }
+    requires { ⌜ (bit (now «tree_seen») (t .0) ≡ false) × Ready (t .0) (now mates) (now live) ⌝ }
     ensures { λ r. ⌜ TreeTried (t .0) (goal .0) (now (rows .entry)) (now (mates .entry)) (now («tree_seen» .entry)) (now (live .entry)) (now (mates .exit)) (now («tree_seen» .exit)) (now (live .exit)) r ⌝ }
 {
     if goal_covers(goal, t, rows) {
@@ -48,7 +49,7 @@ pub fn try_tree(
     }
 }
 
-// Tree rank `t` tries spare rank `s`: its mate, if it has one, may lead on.
+// Tree rank `t` tries the live spare rank `s`: its mate, if it has one, may lead on.
 fn try_spare(
     t: TreeRank,
     s: SpareRank,
@@ -58,7 +59,7 @@ fn try_spare(
     tree_seen: &mut u64,
     live: &mut [u64; 4],
 ) -> bool
-    requires { ⌜ (s .0 < 256) × Ready (t .0) (now mates) (now live) ⌝ }
+    requires { ⌜ (s .0 < 256) × (member (now live) (s .0) ≡ true) × Ready (t .0) (now mates) (now live) ⌝ }
     ensures { λ r. ⌜ SpareTried (t .0) (s .0) (goal .0) (now (rows .entry)) (now (mates .entry)) (now («tree_seen» .entry)) (now (live .entry)) (now (mates .exit)) (now («tree_seen» .exit)) (now (live .exit)) r ⌝ }
 {
     sets::remove(live, s.0);
@@ -78,7 +79,7 @@ fn try_spare(
     false
 }
 
-// Tree rank `t` explores: a search without a goal.
+// Tree rank `t`, which was not seen, explores: a search without a goal.
 pub fn explore(
     t: TreeRank,
     rows: &[u64; 256],
@@ -86,7 +87,7 @@ pub fn explore(
     tree_seen: &mut u64,
     live: &mut [u64; 4],
 )
-    requires { ⌜ Ready (t .0) (now mates) (now live) ⌝ }
+    requires { ⌜ (bit (now «tree_seen») (t .0) ≡ false) × Ready (t .0) (now mates) (now live) ⌝ }
     ensures { λ r. ⌜ Swept (t .0) (now (rows .entry)) (now (mates .entry)) (now («tree_seen» .entry)) (now (live .entry)) (now (mates .exit)) (now («tree_seen» .exit)) (now (live .exit)) ⌝ }
 {
     try_tree(t, SpareRank(256), rows, mates, tree_seen, live);

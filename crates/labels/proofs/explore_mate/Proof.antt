@@ -39,8 +39,10 @@ sub-t11 c = search needs
 explore-requires : tie.Need-explore-requires
 explore-requires c κs =
     let e = c .before .before .before .before .before .before .before .before .before in
-    let a = e .args in
-    record { rank = omega (arith, e .pre .3 (a .s .0), c .before .before .before .before .before .before .if1 .left); mates-length = e .pre .1; live-length = e .pre .2; below = e .pre .3 }
+    let a = e .args in (
+      sym (c .before .before .before .before .has .ensures) ∙ c .before .before .before .if2 .left,
+      record { rank = omega (arith, e .pre .3 (a .s .0), c .before .before .before .before .before .before .if1 .left); mates-length = e .pre .1; live-length = e .pre .2; below = e .pre .3 },
+    )
 
 returns-3 : tie.Need-returns-3
 returns-3 c =

@@ -25,7 +25,8 @@ returns-2 c =
     tree-done (a .t .0) (a .x) (a .matched) (a .rows .now) (store (a .mates .now) (a .tree-done .now) (a .live .now) (a .tree-label .now) (a .spare-label .now)) (e .pre .1) (sym (c .before .has2 .ensures) ∙ c .if2 .taken)
 
 explore-requires : tie.Need-explore-requires
-explore-requires c κs = search needs
+explore-requires c κs =
+    (sym (c .before .before .before .before .before .has2 .ensures) ∙ c .before .before .before .before .if2 .left, search needs)
 
 relabel-requires : tie.Need-relabel-requires
 relabel-requires c κs = search needs

@@ -1,17 +1,15 @@
--- The proof of the cycle of calls {try_spare, try_tree}. The measures are twice the number of tree ranks not yet seen, for `try_tree` once its own rank
--- is marked, and one more. The loop's invariant: the model's loop, run on the present state, gives what it gives on the first.
+-- The proof of the cycle of calls {try_spare, try_tree}. The measure of both is the number of unvisited ranks, tree ranks and spare ranks together: each
+-- visits its own rank before it calls the other. The loop's invariant: the model's loop, run on the present state, gives what it gives on the first.
 -- Assumes nothing.
-use Prim.Native.Nat.{ℕ, _+_, _-_, _*_, _<_}
+use Prim.Native.Nat.{ℕ, _+_, _-_, _<_}
 use native.Mathlib.Omega.{arith}
 use mathlib.Core.Path.{sym, _∙_}
-use mathlib.Core.Bool.{true}
 use lib.ListN.{getD, length-set}
-use Rattle.loops.specs.Loop.{put}
-use Rattle.bits.specs.Bit.{bit}
 use Rattle.sets.specs.Sets.{member}
 use Rattle.graph.specs.Graph.{count}
-use Rattle.search.specs.SpareSteps.{below-set, tree-falls, spare-free, spare-seen, spare-led, spare-failed}
-use Rattle.search.specs.TreeSteps.{goal-within, tree-hit, Entered, Passing, passing-start, passing-end, passing-met, passing-turn, passing-less, spare-falls, next-hit}
+use Rattle.search.specs.State.{unvisited}
+use Rattle.search.specs.SpareSteps.{below-set, spare-visited, spare-free, spare-seen, spare-led, spare-failed}
+use Rattle.search.specs.TreeSteps.{goal-within, tree-hit, Entered, Passing, passing-start, passing-end, passing-met, passing-turn, passing-less, tree-visited, next-hit}
 use borrow.Fn.Kinds.{In}
 use borrow.Fn.PlainCycle.{Measures, is, falls, and}
 use Rattle.search.proofs.try_spare.Reads as try-spare
@@ -29,10 +27,10 @@ use Rattle.search.proofs.+try_spare+try_tree.{statement}
 use Rattle.search.proofs.+try_spare+try_tree.Tie.{close}
 
 abbrev μ-try-spare : Measures 4 try-spare-kinds.ps ℕ
-μ-try-spare κs a = 2 * (64 - count 64 (bit (a .1 .1 .1 .1 .1 .0 .now)))
+μ-try-spare κs a = unvisited (a .1 .1 .1 .1 .1 .0 .now) (a .1 .1 .1 .1 .1 .1 .0 .now)
 
 abbrev μ-try-tree : Measures 4 try-tree-kinds.ps ℕ
-μ-try-tree κs a = 2 * (64 - count 64 (put (bit (a .1 .1 .1 .1 .0 .now)) (a .0 .0) true)) + 1
+μ-try-tree κs a = unvisited (a .1 .1 .1 .1 .0 .now) (a .1 .1 .1 .1 .1 .0 .now)
 
 abbrev try-spare-at : ℕ → In 4 try-spare-kinds.ps
 try-spare-at t = and 4 try-spare-kinds.ps (is 4 try-spare-kinds.ps μ-try-spare t) try-spare.Pre
@@ -56,7 +54,7 @@ try-spare-remove-requires : (t : ℕ) → try-spare-lts.Need-remove-requires (
   try-tree-below t,
   try-tree.Post,
 ) (try-spare-at t) try-spare.Post
-try-spare-remove-requires t c κs = (c .before .pre .1 .0, c .before .pre .1 .1 .live-length)
+try-spare-remove-requires t c κs = (c .before .pre .1 .0, c .before .pre .1 .2 .live-length)
 
 try-spare-cast-k : (t : ℕ) → try-spare-lts.Need-cast-k (
   remove-reads.Asked,
@@ -100,7 +98,7 @@ try-spare-returns t c =
     let e = c .before .before .before .before .before in
     let a = e .args in
     let i = c .before .before .before .remove in
-    spare-free (a .t .0) (a .s .0) (a .goal .0) (a .rows .now) (a .mates .now) (a .tree-seen .now) (a .live .now) (i .last .0) (e .pre .1 .0) (e .pre .1 .1 .mates-length) (i .ensures .1) (i .ensures .0) (c .if1 .taken)
+    spare-free (a .t .0) (a .s .0) (a .goal .0) (a .rows .now) (a .mates .now) (a .tree-seen .now) (a .live .now) (i .last .0) (e .pre .1 .0) (e .pre .1 .2 .mates-length) (i .ensures .1) (i .ensures .0) (c .if1 .taken)
 
 try-spare-sub-has : (t : ℕ) → try-spare-lts.Need-sub-has (
   remove-reads.Asked,
@@ -122,7 +120,7 @@ try-spare-has-requires : (t : ℕ) → try-spare-lts.Need-has-requires (
 ) (try-spare-at t) try-spare.Post
 try-spare-has-requires t c κs =
     let e = c .before .before .before .before .before .before in
-    omega (arith, e .pre .1 .1 .below (e .args .s .0))
+    omega (arith, e .pre .1 .2 .below (e .args .s .0))
 
 try-spare-returns-2 : (t : ℕ) → try-spare-lts.Need-returns-2 (
   remove-reads.Asked,
@@ -136,7 +134,7 @@ try-spare-returns-2 t c =
     let e = c .before .before .before .before .before .before .before .before in
     let a = e .args in
     let i = c .before .before .before .before .before .before .remove in
-    spare-seen (a .t .0) (a .s .0) (a .goal .0) (a .rows .now) (a .mates .now) (a .tree-seen .now) (a .live .now) (i .last .0) (e .pre .1 .0) (e .pre .1 .1 .mates-length) (i .ensures .1) (i .ensures .0) (c .before .before .before .if1 .left)
+    spare-seen (a .t .0) (a .s .0) (a .goal .0) (a .rows .now) (a .mates .now) (a .tree-seen .now) (a .live .now) (i .last .0) (e .pre .1 .0) (e .pre .1 .2 .mates-length) (i .ensures .1) (i .ensures .0) (c .before .before .before .if1 .left)
     (sym (c .before .has .ensures) ∙ c .if2 .taken)
 
 try-spare-add-mates : (t : ℕ) → try-spare-lts.Need-add-mates (
@@ -147,7 +145,7 @@ try-spare-add-mates : (t : ℕ) → try-spare-lts.Need-add-mates (
   try-tree-below t,
   try-tree.Post,
 ) (try-spare-at t) try-spare.Post
-try-spare-add-mates t c = omega (arith, c .before .before .before .before .before .before .before .before .before .pre .1 .1 .rank)
+try-spare-add-mates t c = omega (arith, c .before .before .before .before .before .before .before .before .before .pre .1 .2 .rank)
 
 try-spare-mul-mates : (t : ℕ) → try-spare-lts.Need-mul-mates (
   remove-reads.Asked,
@@ -191,15 +189,18 @@ try-spare-try-tree-requires t c κs =
     let e = c .before .before .before .before .before .before .before .before .before .before .before .before in
     let a = e .args in
     let i = c .before .before .before .before .before .before .before .before .before .before .remove in
-    let r = e .pre .1 .1 in
+    let r = e .pre .1 .2 in
     let l : getD (a .mates .now) (a .s .0) 0 - 1 < 64 = omega (arith, c .before .before .before .before .before .before .before .if1 .left, r .below (a .s .0)) in (
-      omega (arith, e .pre .0, tree-falls (getD (a .mates .now) (a .s .0) 0 - 1) (bit (a .tree-seen .now)) l (sym (c .before .before .before .before .before .has .ensures) ∙ c .before .before .before .before .if2 .left)),
-      record {
-        rank = l;
-        mates-length = length-set (a .mates .now) (a .s .0) (a .t .0 + 1) ∙ r .mates-length;
-        live-length = i .ensures .1;
-        below = below-set 64 (a .mates .now) (a .s .0) (a .t .0 + 1) (omega (arith, e .pre .1 .0, r .mates-length)) (omega (arith, r .rank)) (r .below);
-      },
+      omega (arith, e .pre .0, spare-visited (a .tree-seen .now) (a .live .now) (i .last .0) (a .s .0) (e .pre .1 .0) (e .pre .1 .1) (i .ensures .0)),
+      (
+        sym (c .before .before .before .before .before .has .ensures) ∙ c .before .before .before .before .if2 .left,
+        record {
+          rank = l;
+          mates-length = length-set (a .mates .now) (a .s .0) (a .t .0 + 1) ∙ r .mates-length;
+          live-length = i .ensures .1;
+          below = below-set 64 (a .mates .now) (a .s .0) (a .t .0 + 1) (omega (arith, e .pre .1 .0, r .mates-length)) (omega (arith, r .rank)) (r .below);
+        },
+      ),
     )
 
 try-spare-returns-3 : (t : ℕ) → try-spare-lts.Need-returns-3 (
@@ -214,7 +215,7 @@ try-spare-returns-3 t c =
     let e = c .before .before .before .before .before .before .before .before .before .before .before .before .before .before in
     let a = e .args in
     let i = c .before .before .before .before .before .before .before .before .before .before .before .before .remove in
-    spare-led (a .t .0) (a .s .0) (a .goal .0) (a .rows .now) (a .mates .now) (a .tree-seen .now) (a .live .now) (i .last .0) (e .pre .1 .0) (e .pre .1 .1 .mates-length) (i .ensures .1) (i .ensures .0) (c .before .before .before .before .before .before .before .before .before .if1 .left)
+    spare-led (a .t .0) (a .s .0) (a .goal .0) (a .rows .now) (a .mates .now) (a .tree-seen .now) (a .live .now) (i .last .0) (e .pre .1 .0) (e .pre .1 .2 .mates-length) (i .ensures .1) (i .ensures .0) (c .before .before .before .before .before .before .before .before .before .if1 .left)
     (sym (c .before .before .before .before .before .before .before .has .ensures) ∙ c .before .before .before .before .before .before .if2 .left)
     (c .before .try-tree .last .1 .1 .1 .0) (c .before .try-tree .last .1 .1 .1 .1 .0) (c .before .try-tree .last .1 .1 .1 .1 .1 .0)
     (rw (c .if3 .taken) at (c .before .try-tree .ensures))
@@ -251,7 +252,7 @@ try-spare-returns-4 t c =
     let e = c .before .before .before .before .before .before .before .before .before .before .before .before .before .before in
     let a = e .args in
     let i = c .before .before .before .before .before .before .before .before .before .before .before .before .remove in
-    spare-failed (a .t .0) (a .s .0) (a .goal .0) (a .rows .now) (a .mates .now) (a .tree-seen .now) (a .live .now) (i .last .0) (e .pre .1 .0) (e .pre .1 .1 .mates-length) (i .ensures .1) (i .ensures .0) (c .before .before .before .before .before .before .before .before .before .if1 .left)
+    spare-failed (a .t .0) (a .s .0) (a .goal .0) (a .rows .now) (a .mates .now) (a .tree-seen .now) (a .live .now) (i .last .0) (e .pre .1 .0) (e .pre .1 .2 .mates-length) (i .ensures .1) (i .ensures .0) (c .before .before .before .before .before .before .before .before .before .if1 .left)
     (sym (c .before .before .before .before .before .before .before .has .ensures) ∙ c .before .before .before .before .before .before .if2 .left)
     (c .before .try-tree .last .1 .1 .1 .0) (c .before .try-tree .last .1 .1 .1 .1 .0) (c .before .try-tree .last .1 .1 .1 .1 .1 .0)
     (rw (c .if3 .left) at (c .before .try-tree .ensures))
@@ -273,7 +274,7 @@ try-tree-goal-covers-requires : (t : ℕ) → try-tree-lts.Need-goal-covers-requ
   try-spare-below t,
   try-spare.Post,
 ) (try-tree-at t) try-tree.Post try-tree-Inv-loop try-tree-μ-loop
-try-tree-goal-covers-requires t c κs = c .pre .1 .rank
+try-tree-goal-covers-requires t c κs = c .pre .1 .1 .rank
 
 try-tree-add-mates : (t : ℕ) → try-tree-lts.Need-add-mates (
   goal-covers-reads.Asked,
@@ -285,7 +286,7 @@ try-tree-add-mates : (t : ℕ) → try-tree-lts.Need-add-mates (
   try-spare-below t,
   try-spare.Post,
 ) (try-tree-at t) try-tree.Post try-tree-Inv-loop try-tree-μ-loop
-try-tree-add-mates t c = omega (arith, c .before .before .before .pre .1 .rank)
+try-tree-add-mates t c = omega (arith, c .before .before .before .pre .1 .1 .rank)
 
 try-tree-cast-mates : (t : ℕ) → try-tree-lts.Need-cast-mates (
   goal-covers-reads.Asked,
@@ -338,7 +339,7 @@ try-tree-returns : (t : ℕ) → try-tree-lts.Need-returns (
 try-tree-returns t c =
     let e = c .before .before .before .before in
     let a = e .args in
-    tree-hit (a .t .0) (a .goal .0) (a .rows .now) (a .mates .now) (a .tree-seen .now) (a .live .now) (sym (c .before .before .before .goal-covers .ensures) ∙ c .before .before .if1 .taken) (e .pre .1 .mates-length) (e .pre .1 .live-length)
+    tree-hit (a .t .0) (a .goal .0) (a .rows .now) (a .mates .now) (a .tree-seen .now) (a .live .now) (sym (c .before .before .before .goal-covers .ensures) ∙ c .before .before .if1 .taken) (e .pre .1 .1 .mates-length) (e .pre .1 .1 .live-length)
 
 try-tree-with-requires : (t : ℕ) → try-tree-lts.Need-with-requires (
   goal-covers-reads.Asked,
@@ -350,7 +351,7 @@ try-tree-with-requires : (t : ℕ) → try-tree-lts.Need-with-requires (
   try-spare-below t,
   try-spare.Post,
 ) (try-tree-at t) try-tree.Post try-tree-Inv-loop try-tree-μ-loop
-try-tree-with-requires t c κs = omega (arith, c .before .before .before .pre .1 .rank)
+try-tree-with-requires t c κs = omega (arith, c .before .before .before .pre .1 .1 .rank)
 
 -- Tree rank t is entered before the loop.
 try-tree-entered : (t : ℕ) (f : try-tree-lts.After-with (
@@ -385,7 +386,7 @@ try-tree-loop-holds t c =
     let e = f .before .before .before .before in
     let a = e .args in
     let en = try-tree-entered t f in
-    passing-start (a .t .0) (a .goal .0) (a .rows .now) (a .mates .now) (a .tree-seen .now) (a .live .now) (f .with .result) en (e .pre .1 .mates-length) (e .pre .1 .live-length)
+    passing-start (a .t .0) (a .goal .0) (a .rows .now) (a .mates .now) (a .tree-seen .now) (a .live .now) (f .with .result) en (e .pre .1 .1 .mates-length) (e .pre .1 .1 .live-length)
 
 try-tree-next-requires : (t : ℕ) → try-tree-lts.Need-next-requires (
   goal-covers-reads.Asked,
@@ -397,7 +398,7 @@ try-tree-next-requires : (t : ℕ) → try-tree-lts.Need-next-requires (
   try-spare-below t,
   try-spare.Post,
 ) (try-tree-at t) try-tree.Post try-tree-Inv-loop try-tree-μ-loop
-try-tree-next-requires t c κs = c .before .before .before .before .before .before .pre .1 .rank
+try-tree-next-requires t c κs = c .before .before .before .before .before .before .pre .1 .1 .rank
 
 try-tree-returns-2 : (t : ℕ) → try-tree-lts.Need-returns-2 (
   goal-covers-reads.Asked,
@@ -433,15 +434,17 @@ try-tree-try-spare-requires t c κs =
     let a = e .args in
     let en = try-tree-entered t f in
     let l = c .before .before .before .before .before .before .loop in
-    let n = c .before .before .before .before .next in (
-      omega (arith, e .pre .0, spare-falls (a .t .0) (a .goal .0) (a .rows .now) (a .mates .now) (a .tree-seen .now) (a .live .now) (f .with .result) en (l .tree-seen) (l .inv .grown)),
+    let n = c .before .before .before .before .next in
+    let found = next-hit (a .rows .now) (l .live) (a .t .0) (n .result) (n .ensures) (c .before .before .before .if2 .left) in (
+      omega (arith, e .pre .0, tree-visited (a .t .0) (a .goal .0) (a .rows .now) (a .mates .now) (a .tree-seen .now) (a .live .now) (f .with .result) en (e .pre .1 .1 .rank) (e .pre .1 .0) (l .mates) (l .tree-seen) (l .live) (l .inv)),
       (
-        next-hit (a .rows .now) (l .live) (a .t .0) (n .result) (n .ensures) (c .before .before .before .if2 .left) .0,
+        found .0,
+        found .2,
         record {
-          rank = e .pre .1 .rank;
+          rank = e .pre .1 .1 .rank;
           mates-length = l .inv .mates-length;
           live-length = l .inv .live-length;
-          below = l .inv .below 64 (e .pre .1 .rank) (e .pre .1 .below);
+          below = l .inv .below 64 (e .pre .1 .1 .rank) (e .pre .1 .1 .below);
         },
       ),
     )
@@ -465,7 +468,7 @@ try-tree-returns-3 t c =
     let n = c .before .before .before .before .before .before .next in
     let r = c .before .try-spare in
     passing-met (a .t .0) (a .goal .0) (a .rows .now) (a .mates .now) (a .tree-seen .now) (a .live .now) (f .with .result) en (l .mates) (l .tree-seen) (l .live) (l .inv) (n .result) (n .ensures)
-    (e .pre .1 .rank) (e .pre .1 .below) (c .before .before .before .before .before .if2 .left) (r .last .1 .1 .1 .1 .0) (r .last .1 .1 .1 .1 .1 .0) (r .last .1 .1 .1 .1 .1 .1 .0)
+    (e .pre .1 .1 .rank) (e .pre .1 .1 .below) (c .before .before .before .before .before .if2 .left) (r .last .1 .1 .1 .1 .0) (r .last .1 .1 .1 .1 .1 .0) (r .last .1 .1 .1 .1 .1 .1 .0)
     (rw (c .if3 .taken) at (r .ensures))
 
 try-tree-loop-less : (t : ℕ) → try-tree-lts.Need-loop-less (
@@ -487,7 +490,7 @@ try-tree-loop-less t c =
     let n = c .before .before .before .before .before .before .next in
     let r = c .before .try-spare in
     passing-less (a .t .0) (a .goal .0) (a .rows .now) (a .mates .now) (a .tree-seen .now) (a .live .now) (f .with .result) en (l .mates) (l .tree-seen) (l .live) (l .inv) (n .result) (n .ensures)
-    (e .pre .1 .rank) (e .pre .1 .below) (c .before .before .before .before .before .if2 .left) (r .last .1 .1 .1 .1 .0) (r .last .1 .1 .1 .1 .1 .0) (r .last .1 .1 .1 .1 .1 .1 .0)
+    (e .pre .1 .1 .rank) (e .pre .1 .1 .below) (c .before .before .before .before .before .if2 .left) (r .last .1 .1 .1 .1 .0) (r .last .1 .1 .1 .1 .1 .0) (r .last .1 .1 .1 .1 .1 .1 .0)
     (rw (c .if3 .left) at (r .ensures))
 
 try-tree-loop-again : (t : ℕ) → try-tree-lts.Need-loop-again (
@@ -509,7 +512,7 @@ try-tree-loop-again t c =
     let n = c .before .before .before .before .before .before .next in
     let r = c .before .try-spare in
     passing-turn (a .t .0) (a .goal .0) (a .rows .now) (a .mates .now) (a .tree-seen .now) (a .live .now) (f .with .result) en (l .mates) (l .tree-seen) (l .live) (l .inv) (n .result) (n .ensures)
-    (e .pre .1 .rank) (e .pre .1 .below) (c .before .before .before .before .before .if2 .left) (r .last .1 .1 .1 .1 .0) (r .last .1 .1 .1 .1 .1 .0) (r .last .1 .1 .1 .1 .1 .1 .0)
+    (e .pre .1 .1 .rank) (e .pre .1 .1 .below) (c .before .before .before .before .before .if2 .left) (r .last .1 .1 .1 .1 .0) (r .last .1 .1 .1 .1 .1 .0) (r .last .1 .1 .1 .1 .1 .1 .0)
     (rw (c .if3 .left) at (r .ensures))
 
 pub +try-spare+try-tree-spec : {M : Type 1} → statement M
