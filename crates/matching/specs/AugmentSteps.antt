@@ -188,6 +188,22 @@ module _
                     ∙ sym (rw m at (tried p h b l));
               }
 
+          -- Another goal that is worth it.
+          pub goal-seekable : (g : ℕ) → gain spares cost ts ss t g ≡ true → Seekable t g mates₁ taken₁ trees live
+          goal-seekable g gains =
+              record {
+                fresh = r .fresh;
+                ready = record {
+                  rank = r .rank;
+                  mates-length = first-search .mates-length;
+                  live-length = r .live-length;
+                  below = first-search .below 64 (r .rank) (r .below);
+                };
+                taken-length = first-search .taken-length;
+                taken-are = first-search .taken-are;
+                within = omega (arith, gain-within t g spares cost ts ss gains, r .few);
+              }
+
           -- It has not: the goal is the cheapest one reached.
           module _
               (m : met ≡ false)
@@ -258,40 +274,24 @@ module _
                         (worth-same p spares cost ts ss rows h t l _ _ (goal-same p h b l) g goal-first ∙ off));
                   }
 
-              module _ (gains : gain spares cost ts ss t g ≡ true) where
-                pub goal-seekable : Seekable t g mates₁ taken₁ trees live
-                goal-seekable =
-                    record {
-                      fresh = r .fresh;
-                      ready = record {
-                        rank = r .rank;
-                        mates-length = first-search .mates-length;
-                        live-length = r .live-length;
-                        below = first-search .below 64 (r .rank) (r .below);
-                      };
-                      taken-length = first-search .taken-length;
-                      taken-are = first-search .taken-are;
-                      within = omega (arith, gain-within t g spares cost ts ss gains, r .few);
-                    }
-
-                pub augmented-on : (mates₂ taken₂ : List ℕ) (trees₂ : ℕ) (live₂ : List ℕ) (met₂ : Bool) → Sought t g rows mates₁ trees live mates₂ taken₂ trees₂ live₂ met₂
-                    → (live′ : List ℕ) → ((j : ℕ) → member live′ j ≡ (member live j || eqb g j)) → length live′ ≡ 4
-                    → Out mates₂ taken₂ trees live′
-                augmented-on mates₂ taken₂ trees₂ live₂ met₂ second-search live′ more size =
-                    record {
-                      mates-length = second-search .mates-length;
-                      taken-length = second-search .taken-length;
-                      live-length = size;
-                      below = λ n k b. second-search .below n k (first-search .below n k b);
-                      unseen = λ n k b u. u;
-                      taken-are = second-search .taken-are;
-                      equal = λ p h b l.
-                          let is = found-worth p spares cost ts ss rows h t l _ _ (goal-same p h b l) g goal-first gains in
-                          ap (λ (f : ℕ → Bool). record { mates = matesOf mates₂; treeDead = bit trees; spareLive = f }) (member-put live live′ g more)
-                          ∙ ap (turned pr g)
-                          (second-search .equal p (h .rows-are) (first-search .below (p .trees) l b) l
-                          ∙ ap (λ (f : Mates). search p g t (record { mates = f; treeSeen = bit trees; spareSeen = λ s. not (member live s); met = false })) same)
-                          ∙ ap (λ (j : ℕ). turned pr j (search p j t (begun pr))) (sym is)
-                          ∙ sym (failed p h b l ∙ reached-on p t pr (stateOf mates₁ trees₁ live₁ false)
-                          (worth-same p spares cost ts ss rows h t l _ _ (goal-same p h b l) g goal-first ∙ gains));
-                    }
+              pub augmented-on : gain spares cost ts ss t g ≡ true → (mates₂ taken₂ : List ℕ) (trees₂ : ℕ) (live₂ : List ℕ) (met₂ : Bool) → Sought t g rows mates₁ trees live mates₂ taken₂ trees₂ live₂ met₂
+                  → (live′ : List ℕ) → ((j : ℕ) → member live′ j ≡ (member live j || eqb g j)) → length live′ ≡ 4
+                  → Out mates₂ taken₂ trees live′
+              augmented-on gains mates₂ taken₂ trees₂ live₂ met₂ second-search live′ more size =
+                  record {
+                    mates-length = second-search .mates-length;
+                    taken-length = second-search .taken-length;
+                    live-length = size;
+                    below = λ n k b. second-search .below n k (first-search .below n k b);
+                    unseen = λ n k b u. u;
+                    taken-are = second-search .taken-are;
+                    equal = λ p h b l.
+                        let is = found-worth p spares cost ts ss rows h t l _ _ (goal-same p h b l) g goal-first gains in
+                        ap (λ (f : ℕ → Bool). record { mates = matesOf mates₂; treeDead = bit trees; spareLive = f }) (member-put live live′ g more)
+                        ∙ ap (turned pr g)
+                        (second-search .equal p (h .rows-are) (first-search .below (p .trees) l b) l
+                        ∙ ap (λ (f : Mates). search p g t (record { mates = f; treeSeen = bit trees; spareSeen = λ s. not (member live s); met = false })) same)
+                        ∙ ap (λ (j : ℕ). turned pr j (search p j t (begun pr))) (sym is)
+                        ∙ sym (failed p h b l ∙ reached-on p t pr (stateOf mates₁ trees₁ live₁ false)
+                        (worth-same p spares cost ts ss rows h t l _ _ (goal-same p h b l) g goal-first ∙ gains));
+                  }

@@ -19,7 +19,7 @@ loop-holds c =
 cost-at-requires : tie.Need-cost-at-requires Inv-loop μ-loop
 cost-at-requires c κs =
     let e = c .before .before in
-    (omega (arith, e .pre .0), e .pre .1 (c .before .loop .s) (c .loop-test .taken))
+    (omega (arith, e .pre .0), e .pre .1 _ (omega (arith, c .loop-test .taken)))
 
 cast-label : tie.Need-cast-label Inv-loop μ-loop
 cast-label c = omega arith

@@ -35,7 +35,7 @@ insert-requires c κs =
     let e = f .before .before .before in
     let a = e .args in
     let o = f .before .lowest-free in
-    (cheapest-seekable (a .t .0) (a .spares) (a .cost .now) (a .ts .now) (a .ss .now) (a .rows .now) (a .mates .now) (a .taken .now) (a .tree-dead .now) (a .live .now) (e .pre) (o .result) (o .ensures) (sym (f .gains .ensures) ∙ not-false (f .gains .result) (c .before .before .before .before .before .before .before .before .before .if1 .left)) .within, e .pre .live-length)
+    (omega (arith, cheapest-seekable (a .t .0) (a .spares) (a .cost .now) (a .ts .now) (a .ss .now) (a .rows .now) (a .mates .now) (a .taken .now) (a .tree-dead .now) (a .live .now) (e .pre) (o .result) (o .ensures) (sym (f .gains .ensures) ∙ not-false (f .gains .result) (c .before .before .before .before .before .before .before .before .before .if1 .left)) .within), e .pre .live-length)
 
 returns-2 : tie.Need-returns-2
 returns-2 c =
@@ -57,6 +57,20 @@ lowest-covering-requires c κs = search needs
 gains-requires-2 : tie.Need-gains-requires-2
 gains-requires-2 c κs = search needs
 
+-- Paths lead to none that gains.
+returns-4 : tie.Need-returns-4
+returns-4 c =
+    let f = c .before .before .before .before .before .before .before .before .before .before .before .before .before .before in
+    let e = f .before .before .before in
+    let a = e .args in
+    let o = f .before .lowest-free in
+    let d = c .before .before .before .before .before .before .seek in
+    let w = c .before .before .before .before .less in
+    let g = c .before .before .lowest-covering in
+    augmented-off (a .t .0) (a .spares) (a .cost .now) (a .ts .now) (a .ss .now) (a .rows .now) (a .mates .now) (a .taken .now) (a .tree-dead .now) (a .live .now) (e .pre) (o .result) (o .ensures) (sym (f .gains .ensures) ∙ not-false (f .gains .result) (c .before .before .before .before .before .before .before .before .before .before .before .before .before .if1 .left))
+    (d .last .1 .1 .1 .0) (d .last .1 .1 .1 .1 .0) (d .last .1 .1 .1 .1 .1 .0) (d .last .1 .1 .1 .1 .1 .1 .0) (d .result) (d .ensures) (c .before .before .before .before .before .if2 .left) (w .result) (omega arith) (w .ensures) (g .result) (g .ensures) (sym (c .before .gains2 .ensures) ∙ c .if3 .left)
+
+-- They lead to one.
 seek-requires-2 : tie.Need-seek-requires-2
 seek-requires-2 c κs =
     let f = c .before .before .before .before .before .before .before .before .before .before .before .before .before .before .before .before .before .before .before in
@@ -64,10 +78,9 @@ seek-requires-2 c κs =
     let a = e .args in
     let o = f .before .lowest-free in
     let d = c .before .before .before .before .before .before .before .before .before .before .before .seek in
-    let w = c .before .before .before .before .before .before .before .before .before .less in
     let g = c .before .before .before .before .before .before .before .lowest-covering in
     goal-seekable (a .t .0) (a .spares) (a .cost .now) (a .ts .now) (a .ss .now) (a .rows .now) (a .mates .now) (a .taken .now) (a .tree-dead .now) (a .live .now) (e .pre) (o .result) (o .ensures) (sym (f .gains .ensures) ∙ not-false (f .gains .result) (c .before .before .before .before .before .before .before .before .before .before .before .before .before .before .before .before .before .before .if1 .left))
-    (d .last .1 .1 .1 .0) (d .last .1 .1 .1 .1 .0) (d .last .1 .1 .1 .1 .1 .0) (d .last .1 .1 .1 .1 .1 .1 .0) (d .result) (d .ensures) (c .before .before .before .before .before .before .before .before .before .before .if2 .left) (w .result) (omega arith) (w .ensures) (g .result) (g .ensures) (sym (c .before .before .before .before .before .before .gains2 .ensures) ∙ c .before .before .before .before .before .if3 .taken)
+    (d .last .1 .1 .1 .0) (d .last .1 .1 .1 .1 .0) (d .last .1 .1 .1 .1 .1 .0) (d .last .1 .1 .1 .1 .1 .1 .0) (d .result) (d .ensures) (g .result) (sym (c .before .before .before .before .before .before .gains2 .ensures) ∙ c .before .before .before .before .before .if3 .taken)
 
 insert-requires-2 : tie.Need-insert-requires-2
 insert-requires-2 c κs =
@@ -76,10 +89,9 @@ insert-requires-2 c κs =
     let a = e .args in
     let o = f .before .lowest-free in
     let d = c .before .before .before .before .before .before .before .before .before .before .before .before .before .seek in
-    let w = c .before .before .before .before .before .before .before .before .before .before .before .less in
     let g = c .before .before .before .before .before .before .before .before .before .lowest-covering in (
       goal-seekable (a .t .0) (a .spares) (a .cost .now) (a .ts .now) (a .ss .now) (a .rows .now) (a .mates .now) (a .taken .now) (a .tree-dead .now) (a .live .now) (e .pre) (o .result) (o .ensures) (sym (f .gains .ensures) ∙ not-false (f .gains .result) (c .before .before .before .before .before .before .before .before .before .before .before .before .before .before .before .before .before .before .before .before .if1 .left))
-          (d .last .1 .1 .1 .0) (d .last .1 .1 .1 .1 .0) (d .last .1 .1 .1 .1 .1 .0) (d .last .1 .1 .1 .1 .1 .1 .0) (d .result) (d .ensures) (c .before .before .before .before .before .before .before .before .before .before .before .before .if2 .left) (w .result) (omega arith) (w .ensures) (g .result) (g .ensures) (sym (c .before .before .before .before .before .before .before .before .gains2 .ensures) ∙ c .before .before .before .before .before .before .before .if3 .taken) .within,
+          (d .last .1 .1 .1 .0) (d .last .1 .1 .1 .1 .0) (d .last .1 .1 .1 .1 .1 .0) (d .last .1 .1 .1 .1 .1 .1 .0) (d .result) (d .ensures) (g .result) (sym (c .before .before .before .before .before .before .before .before .gains2 .ensures) ∙ c .before .before .before .before .before .before .before .if3 .taken) .within,
       e .pre .live-length,
     )
 
@@ -97,18 +109,6 @@ returns-3 c =
     (d .last .1 .1 .1 .0) (d .last .1 .1 .1 .1 .0) (d .last .1 .1 .1 .1 .1 .0) (d .last .1 .1 .1 .1 .1 .1 .0) (d .result) (d .ensures) (c .before .before .before .before .before .before .before .before .before .before .before .before .before .if2 .left) (w .result) (omega arith) (w .ensures) (g .result) (g .ensures) (sym (c .before .before .before .before .before .before .before .before .before .gains2 .ensures) ∙ c .before .before .before .before .before .before .before .before .if3 .taken)
     (h .last .1 .1 .1 .0) (h .last .1 .1 .1 .1 .0) (h .last .1 .1 .1 .1 .1 .0) (h .last .1 .1 .1 .1 .1 .1 .0) (h .result) (h .ensures)
     (c .insert2 .last .0) (c .insert2 .ensures .0) (c .insert2 .ensures .1)
-
-returns-4 : tie.Need-returns-4
-returns-4 c =
-    let f = c .before .before .before .before .before .before .before .before .before .before .before .before .before .before in
-    let e = f .before .before .before in
-    let a = e .args in
-    let o = f .before .lowest-free in
-    let d = c .before .before .before .before .before .before .seek in
-    let w = c .before .before .before .before .less in
-    let g = c .before .before .lowest-covering in
-    augmented-off (a .t .0) (a .spares) (a .cost .now) (a .ts .now) (a .ss .now) (a .rows .now) (a .mates .now) (a .taken .now) (a .tree-dead .now) (a .live .now) (e .pre) (o .result) (o .ensures) (sym (f .gains .ensures) ∙ not-false (f .gains .result) (c .before .before .before .before .before .before .before .before .before .before .before .before .before .if1 .left))
-    (d .last .1 .1 .1 .0) (d .last .1 .1 .1 .1 .0) (d .last .1 .1 .1 .1 .1 .0) (d .last .1 .1 .1 .1 .1 .1 .0) (d .result) (d .ensures) (c .before .before .before .before .before .if2 .left) (w .result) (omega arith) (w .ensures) (g .result) (g .ensures) (sym (c .before .gains2 .ensures) ∙ c .if3 .left)
 
 pub augment-spec : {M : Type 1} → statement M
 augment-spec =

@@ -54,7 +54,7 @@ try-spare-remove-requires : (t : ℕ) → try-spare-lts.Need-remove-requires (
   try-tree-below t,
   try-tree.Post,
 ) (try-spare-at t) try-spare.Post
-try-spare-remove-requires t c κs = (c .before .pre .1 .0, c .before .pre .1 .2 .live-length)
+try-spare-remove-requires t c κs = (omega (arith, c .before .pre .1 .0), c .before .pre .1 .2 .live-length)
 
 try-spare-cast-k : (t : ℕ) → try-spare-lts.Need-cast-k (
   remove-reads.Asked,

@@ -1,6 +1,7 @@
 -- `search::goal_covers` meets its contract. Assumes nothing.
 use borrow.Author.Needs.{needs}
 use borrow.Author.Tests.{lt-ltb, le-ltb}
+use native.Mathlib.Omega.{arith}
 use Rattle.search.proofs.goal_covers.Statement.{statement}
 use Rattle.search.proofs.goal_covers.Tie as tie
 
@@ -10,7 +11,7 @@ contains-in-row-requires c κs = search needs
 returns : tie.Need-returns
 returns c =
     let a = c .before .before .before .args in
-    rw (lt-ltb (a .goal .0) 256 (c .before .if1 .taken)) (c .contains-in-row .ensures)
+    rw (lt-ltb (a .goal .0) 256 (omega (arith, c .before .if1 .taken))) (c .contains-in-row .ensures)
 
 returns-2 : tie.Need-returns-2
 returns-2 c =
