@@ -2,15 +2,17 @@
 -- Assumes nothing.
 use Prim.Native.Nat.{ℕ, zero, suc, _+_, _*_, _<_, _≤_}
 use native.Mathlib.Decide.{ℕ-discrete, decLe}
+use native.Mathlib.Nat.{zero-add}
 use native.Mathlib.Omega.{arith}
 use mathlib.Core.Path.{_≡_, refl, sym, ap, ap₂, _∙_}
 use mathlib.Core.Bool.{true, false}
-use mathlib.Core.List.{List}
+use mathlib.Core.List.{List, [], _∷_, _++_}
 use mathlib.Core.Option.{Option, some, none}
 use lib.ListN.{length, getD, take, drop, length-append, length-drop}
-use lib.Seq.{sets, length-take-le, drop-cons}
+use lib.Seq.{sets, sets-eq, length-sets, length-take-le, drop-cons}
 use borrow.Author.Tests.{eq-eqb, ne-eqb, le-leb, lt-leb}
 use Rattle.loops.specs.Loop.{gather, tabulate}
+use Rattle.loops.specs.TestLaws.{clash}
 use Rattle.loops.specs.GatherLaws.{length-tabulate, tabulate-getD}
 use Rattle.leb128.specs.Number.{Bytes, decode, readAt}
 use Rattle.leb128.specs.Number.Decoded.{number}
@@ -29,7 +31,7 @@ use Rattle.job.specs.CountLaws.{count-some, count-none}
 use Rattle.job.specs.LoadLaws.{Next, next-number}
 use Rattle.job.specs.FormLaws.{parts-join, drop-divides, sets-at}
 use Rattle.answer_read.specs.declared.Contents.{Contents}
-use Rattle.answer_read.specs.Reading.{noContents, contents, Costs, costsAt, loadCosts, Pairs, pairsAt, loadPairs, pairIn, answerIn, few}
+use Rattle.answer_read.specs.Reading.{noContents, contents, Costs, costsAt, loadCosts, Pairs, pairsAt, loadPairs, pairIn, answerIn, few, Behind}
 use Rattle.answer_read.specs.LoadLaws.{load-costs, load-pairs, evens, odds, evens-at, odds-at, length-evens, length-odds}
 
 -- ---- the steps
@@ -54,6 +56,16 @@ tabulate-same : {A : Type 0} (n : ℕ) (f g : ℕ → A) → ((i : ℕ) → i < 
 unfolding gather
 tabulate-same zero f g h = refl
 tabulate-same (suc n) f g h = rw (tabulate-same n f g (λ i l. h i (omega arith)), h n (omega arith))
+
+-- A list put over the front of another leaves what is behind it.
+behind-front : (xs l : List ℕ) (k : ℕ) → length xs ≤ length l → length xs ≤ k → getD (xs ++ drop (length xs) l) k 0 ≡ getD l k 0
+behind-front [] l k h n = refl
+behind-front (x ∷ xs) [] k h n = absurd (omega arith)
+behind-front (x ∷ xs) (y ∷ l) zero h n = absurd (omega arith)
+behind-front (x ∷ xs) (y ∷ l) (suc k) h n = behind-front xs l k (omega arith) (omega arith)
+
+sets-past : (xs l : List ℕ) (k : ℕ) → length xs ≤ length l → length xs ≤ k → getD (sets l 0 xs) k 0 ≡ getD l k 0
+sets-past xs l k h n = rw (sets-eq xs l 0 (omega arith), zero-add (length xs)) (behind-front xs l k h n)
 
 -- What the steps are and where the part behind them is.
 module _ (m : ℕ) (s : List ℕ) (h : Bytes s) (v next : ℕ) (e : readAt stepBytes s 0 ≡ Read.Value v next) (part : List ℕ) (behind : part ≡ drop next s) where
@@ -170,10 +182,29 @@ module _ (m : ℕ) (s : List ℕ) (h : Bytes s) (v next : ℕ) (e : readAt stepB
             ∙ sym (ap few (answer-size whole)
             ∙ rw (length-tabulate (pairFrom (drop (suc m) ns)) (getD ns m 0), le-leb (getD ns m 0) 64 (omega (arith, count-read))))
 
+        pub answer-kept : Behind m (c .value) cs cs′ ts ts′ ss ss′
+        answer-kept =
+            let taken : length (take m ns) ≡ m = length-take-le m ns (omega (arith, size)) in
+            let firsts = length-evens (c .value) (drop (suc m) ns) two in
+            let seconds = length-odds (c .value) (drop (suc m) ns) two in
+            let new-costs = ap (λ (x : Costs). x .costs) costs-read in
+            let new-trees = ap (λ (x : Pairs). x .trees) pairs-read in
+            let new-spares = ap (λ (x : Pairs). x .spares) pairs-read in
+            record {
+              places = record {
+                costs = ap length new-costs ∙ length-sets cs 0 (take m ns) ∙ room;
+                trees = ap length new-trees ∙ length-sets ts 0 (evens (drop (suc m) ns)) ∙ room-t;
+                spares = ap length new-spares ∙ length-sets ss 0 (odds (drop (suc m) ns)) ∙ room-s;
+              };
+              costs = λ e l. ap (λ (x : List ℕ). getD x e 0) new-costs ∙ sets-past (take m ns) cs e (omega (arith, taken, room, edges)) (omega (arith, taken, l));
+              trees = λ i l. ap (λ (x : List ℕ). getD x i 0) new-trees ∙ sets-past (evens (drop (suc m) ns)) ts i (omega (arith, firsts, room-t, most)) (omega (arith, firsts, l));
+              spares = λ i l. ap (λ (x : List ℕ). getD x i 0) new-spares ∙ sets-past (odds (drop (suc m) ns)) ss i (omega (arith, seconds, room-s, most)) (omega (arith, seconds, l));
+            }
+
 -- A frame that is not read.
-pub no-answer : (m : ℕ) (r : Contents) (cs ts ss : List ℕ) (o : Option Answer) → r ≡ noContents → o ≡ none → (contents m r cs ts ss ≡ o) × (r .count ≤ 64)
+pub no-answer : (m : ℕ) (r : Contents) (cs ts ss : List ℕ) (o : Option Answer) {Kept : Type 0} → r ≡ noContents → o ≡ none → (contents m r cs ts ss ≡ o) × ((r .count ≤ 64) × (r .ok ≡ true → Kept))
 unfolding contents
-no-answer m r cs ts ss o e z = rw (e, z) (refl, omega arith)
+no-answer m r cs ts ss o e z = (rw (e, z) refl, (rw e (omega arith), λ y. clash y (ap (λ (c : Contents). c .ok) e)))
 
 -- What the reader's result says of the frame's content: it is the answer in the arrays, or there are too many pairs.
 module _ (m : ℕ) (r : Contents) (cs ts ss : List ℕ) where

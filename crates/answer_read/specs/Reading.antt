@@ -1,5 +1,5 @@
 -- What the functions that read an answer frame compute. Definitions only. Assumes nothing.
-use Prim.Native.Nat.{ℕ}
+use Prim.Native.Nat.{ℕ, _≤_}
 use mathlib.Core.Path.{_≡_}
 use mathlib.Core.Bool.{false}
 use mathlib.Core.List.{List}
@@ -73,3 +73,10 @@ pub record Places (cs ts ss : List ℕ) : Type 0 where
   pub costs : length cs ≡ 256
   pub trees : length ts ≡ 64
   pub spares : length ss ≡ 64
+
+-- The arrays after an answer of so many costs and pairs was read: the places behind them are as they were.
+pub record Behind (edges count : ℕ) (cs cs′ ts ts′ ss ss′ : List ℕ) : Type 0 where
+  pub places : Places cs′ ts′ ss′
+  pub costs : (e : ℕ) → edges ≤ e → getD cs′ e 0 ≡ getD cs e 0
+  pub trees : (i : ℕ) → count ≤ i → getD ts′ i 0 ≡ getD ts i 0
+  pub spares : (i : ℕ) → count ≤ i → getD ss′ i 0 ≡ getD ss i 0

@@ -1,9 +1,10 @@
 // Reads an answer frame made elsewhere into arrays: new costs for 256 links, and 64 pairs.
 ghost use mathlib.Core.Path.{_≡_};
+ghost use mathlib.Core.Bool.{true};
 ghost use Prim.Native.Nat.{_+_, _≤_};
 ghost use lib.ListN.{length};
 ghost use Rattle.frame.specs.Answers.{readAnswer};
-ghost use Rattle.answer_read.specs.Reading.{costsAt, loadCosts, pairsAt, loadPairs, noContents, contents, few, Places};
+ghost use Rattle.answer_read.specs.Reading.{costsAt, loadCosts, pairsAt, loadPairs, noContents, contents, few, Places, Behind};
 ghost use Rattle.job.specs.Finding.{placeOf};
 ghost use Rattle.answer_read.specs.Costs.{CostIn, costPlaceIn};
 use job::find::Part;
@@ -71,7 +72,8 @@ fn no_contents() -> Contents
     }
 }
 
-// Reads an answer frame to a job of so many links. A frame of more than 64 pairs is not read: no tree has as many links.
+// Reads an answer frame to a job of so many links; the places behind what was read stay. A frame of more than 64 pairs is not
+// read: no tree has as many links.
 pub fn read_answer(
     frame: &[u8],
     edges: usize,
@@ -84,6 +86,7 @@ pub fn read_answer(
     ensures answer { λ r. ⌜ contents edges r (now (costs .exit)) (now (trees .exit)) (now (spares .exit))
         ≡ few (readAnswer edges (now (frame .entry))) ⌝ }
     ensures count { λ r. ⌜ r .count ≤ 64 ⌝ }
+    ensures behind { λ r. ⌜ (r .ok ≡ true → Behind edges (r .count) (now (costs .entry)) (now (costs .exit)) (now (trees .entry)) (now (trees .exit)) (now (spares .entry)) (now (spares .exit))) ⌝ }
 {
     let first = leb128::read(frame, 0, 3);
     let Number::Value(steps, behind) = first else {

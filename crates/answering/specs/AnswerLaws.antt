@@ -9,12 +9,12 @@ use lib.ListN.{length, take, drop}
 use lib.Seq.{take-at, drop-at}
 use Rattle.leb128.specs.Number.{Bytes}
 use Rattle.frame.specs.Questions.{jobOf, refusal}
-use Rattle.frame.specs.Answers.{answerFrame, answerOf}
+use Rattle.frame.specs.Answers.{answerFrame, answerOf, readAnswer, judgeAnswer}
 use Rattle.frame.specs.Services.{Outcome, written, answered}
 use Rattle.frame.specs.Form.{first-no}
 use Rattle.frame.specs.Accepted.{accepted}
-use Rattle.frame.specs.AnswerMeaning.{AnswerOf}
-use Rattle.frame.specs.OwnAnswer.{own, own-layout}
+use Rattle.frame.specs.AnswerMeaning.{AnswerOf, Certified}
+use Rattle.frame.specs.OwnAnswer.{own, own-layout, own-certified, own-judged, own-read}
 use Rattle.frame.specs.Outcomes.{written-short, written-done, refused-untouched, accepted-written}
 use Rattle.job.specs.declared.write.Reply.{Reply}
 use Rattle.job.specs.Writing.{outcome}
@@ -63,5 +63,8 @@ answered-of s area b r after e =
           answer = answerOf (jobOf s);
           layout = subst (λ (f : List ℕ). AnswerOf (length (jobOf s .links)) f (answerOf (jobOf s))) (sym front) (own-layout (jobOf s) a);
           demanded = own (jobOf s) a;
+          certified = subst (λ (f : List ℕ). Certified (jobOf s) f (answerOf (jobOf s))) (sym front) (own-certified (jobOf s) a);
+          judged = ap (judgeAnswer (jobOf s)) front ∙ own-judged (jobOf s) a;
+          reads = ap (readAnswer (length (jobOf s .links))) front ∙ own-read (jobOf s) a;
           rest = ap (drop (r .length)) now ∙ drop-at bytes (drop (0 + length bytes) area) (r .length) (sym size) ∙ ap (λ (n : ℕ). drop n area) none;
         }

@@ -18,7 +18,7 @@ use Rattle.frame.specs.Meaning.{Small, Accepted}
 use Rattle.frame.specs.Division.{small-cons}
 use Rattle.frame.specs.RoundTrip.{flatMap-append}
 use Rattle.frame.specs.Accepted.{cost-small}
-use Rattle.frame.specs.AnswerMeaning.{AnswerOf}
+use Rattle.frame.specs.AnswerMeaning.{AnswerOf, Certified}
 use Rattle.frame.specs.AnswerLayout.{length-both, layout-read}
 use Rattle.frame.specs.AnswerJudge.{certified-judged}
 
@@ -85,9 +85,8 @@ module _ (j : Job) (accepted : Accepted j) where
   pub own-read : readAnswer (length (j .links)) (answerFrame (answerOf j)) ≡ some (answerOf j)
   own-read = layout-read own-layout
 
-  pub own-judged : judgeAnswer j (answerFrame (answerOf j)) ≡ true
-  own-judged =
-      certified-judged j accepted {a = answerOf j}
+  pub own-certified : Certified j (answerFrame (answerOf j)) (answerOf j)
+  own-certified =
       record {
         layout = own-layout;
         certificate =
@@ -100,6 +99,9 @@ module _ (j : Job) (accepted : Accepted j) where
               weighs = own .weighs;
             };
       }
+
+  pub own-judged : judgeAnswer j (answerFrame (answerOf j)) ≡ true
+  own-judged = certified-judged j accepted own-certified
 
   pub own-size : length (answerFrame (answerOf j)) ≤ 768
   own-size = omega (arith, answer-most (answerOf j) (omega (arith, few)), few, own .count, accepted .edge-limit)

@@ -15,7 +15,7 @@ use Rattle.frame.specs.Job.{stepBytes}
 use Rattle.frame.specs.Questions.{numbers}
 use Rattle.job.specs.declared.read.Numbers.the-variants.{Count}
 use Rattle.job.specs.Reading.{countFrom}
-use Rattle.answer_read.specs.AnswerLaws.{steps-within, answer-unread, answer-undivided, answer-short, answer-many, answer-wrong, answer-read, no-answer}
+use Rattle.answer_read.specs.AnswerLaws.{steps-within, answer-unread, answer-undivided, answer-short, answer-many, answer-wrong, answer-read, answer-kept, no-answer}
 
 -- the frame and the part behind the steps
 abbrev frame-of : tie.After-first → List ℕ
@@ -149,7 +149,12 @@ returns-6 c =
       answer-read _ _ (bytes (first-of n)) _ _ (steps (first-of n)) (part-of (first-of n)) (part-is (first-of n)) _ (counted n)
           (r .before .before .if1 .left) _ _ _ (r .read-costs .ensures) (k .number-at .result) (k .number-at .ensures) (e .if3 .left) (e .before .before .if2 .left)
           _ _ _ _ _ (c .read-pairs .ensures) (s .pre .1 .costs) (s .pre .1 .trees) (s .pre .1 .spares) (s .pre .0),
-      e .before .before .if2 .left,
+      (
+        e .before .before .if2 .left,
+        λ _. answer-kept _ _ (bytes (first-of n)) _ _ (steps (first-of n)) (part-of (first-of n)) (part-is (first-of n)) _ (counted n)
+            (r .before .before .if1 .left) _ _ _ (r .read-costs .ensures) (k .number-at .result) (k .number-at .ensures) (e .if3 .left) (e .before .before .if2 .left)
+            _ _ _ _ _ (c .read-pairs .ensures) (s .pre .1 .costs) (s .pre .1 .trees) (s .pre .1 .spares) (s .pre .0),
+      ),
     )
 
 pub read-answer-spec : {M : Type 1} → statement M

@@ -151,7 +151,7 @@ pairs-weight-requires c κs =
     let r = read-of (first-of (second-of e₄)) in
     let s = start-of r in
     let a = s .args in
-    held-falling (a .edges) (a .p) (a .ts .now) (a .end1 .now) (a .end2 .now) (a .cost .now) (a .mark .now) (a .mask .now) (r .read-answer .result .count) (trees-of r) (spares-of r) (s .pre .judged .links) (r .read-answer .ensures .1) (pairs-pass e₄)
+    held-falling (a .edges) (a .p) (a .ts .now) (a .end1 .now) (a .end2 .now) (a .cost .now) (a .mark .now) (a .mask .now) (r .read-answer .result .count) (trees-of r) (spares-of r) (s .pre .judged .links) (r .read-answer .ensures .1 .0) (pairs-pass e₄)
 
 returns-6 : tie.Need-returns-6
 returns-6 c = λ j h.
