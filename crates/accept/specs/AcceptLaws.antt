@@ -3,24 +3,23 @@ use Prim.Native.Nat.{ℕ, zero, suc, _-_, _≤_}
 use native.Mathlib.Omega.{arith}
 use mathlib.Core.Path.{_≡_, refl, sym, ap, _∙_}
 use mathlib.Core.Logic.{⊎-elim}
-use mathlib.Core.Bool.{true, false}
 use mathlib.Core.List.{List}
 use lib.Dec.{ltb}
 use lib.ListN.{length}
 use Rattle.loops.specs.TestLaws.{truth}
 use Rattle.leb128.specs.Number.{Bytes}
 use Rattle.frame.specs.Job.{Job}
-use Rattle.frame.specs.Questions.{jobOf, ask, question6, numberQuestions, formRefusal, refusal}
+use Rattle.frame.specs.Questions.{jobOf, numberQuestions, formRefusal, refusal}
 use Rattle.frame.specs.Division.{division}
 use Rattle.frame.specs.Form.{formed-pass, form-refusal}
 use Rattle.frame.specs.RoundTrip.{formed, job-of}
 use Rattle.job.specs.declared.read.Header.{Header}
 use Rattle.job.specs.Reading.{header, headerOf}
 use Rattle.job.specs.JobRoundTrip.{links-few}
-use Rattle.accept.specs.Accepting.{acceptedHeader}
+use Rattle.accept.specs.Accepting.{treeRefusal, refusedHeader, acceptedHeader}
 
 -- A frame refused by its form is refused by the same number.
-pub refused-form : (s : List ℕ) → (formRefusal s ≡ 0 → ⊥) → refusal s ≡ formRefusal s
+refused-form : (s : List ℕ) → (formRefusal s ≡ 0 → ⊥) → refusal s ≡ formRefusal s
 refused-form s n =
     ⊎-elim
     (λ y. sym (form-refusal s ∙ rw y))
@@ -28,11 +27,19 @@ refused-form s n =
     (truth (ltb (refusal s) 6))
 
 -- A frame of good form is refused by question 6 or not at all.
-pub passed-form : (s : List ℕ) → Bytes s → formRefusal s ≡ 0 → refusal s ≡ ask (question6 (jobOf s)) 6 λ _. 0
+passed-form : (s : List ℕ) → Bytes s → formRefusal s ≡ 0 → refusal s ≡ treeRefusal (jobOf s)
 passed-form s b z =
     let (ns, f) = formed s b z in
-    let whole : refusal s ≡ numberQuestions (λ j. ask (question6 j) 6 λ _. 0) ns = rw (division s ns b .1 (f .divides)) in
-    whole ∙ formed-pass f (λ j. ask (question6 j) 6 λ _. 0) ∙ ap (λ (j : Job). ask (question6 j) 6 λ _. 0) (sym (job-of s ns b (f .divides)))
+    let whole : refusal s ≡ numberQuestions treeRefusal ns = rw (division s ns b .1 (f .divides)) in
+    whole ∙ formed-pass f treeRefusal ∙ ap treeRefusal (sym (job-of s ns b (f .divides)))
+
+pub refused-header : (r : ℕ) (j : Job) → (r ≡ 0 → ⊥) → refusedHeader r ≡ header r j
+unfolding header
+refused-header zero j n = absurd (n refl)
+refused-header (suc r) j n = refl
+
+pub refused-nonzero : (h : Header) (r : ℕ) → h ≡ refusedHeader r → (r ≡ 0 → ⊥) → h .refusal ≡ 0 → ⊥
+refused-nonzero h r e n z = n (sym (ap (λ (h : Header). h .refusal) e) ∙ z)
 
 header-zero : (r : ℕ) (j : Job) → header r j .refusal ≡ 0 → r ≡ 0
 unfolding header
@@ -67,16 +74,16 @@ module _ (s : List ℕ) (h : Header) (e : h ≡ headerOf s) where
     pub few-edges : h .edges ≤ 256
     few-edges = omega (arith, header-edges, links-few s b formed-zero)
 
-    pub tree-refused : question6 (jobOf s) ≡ false → record { refusal = 6; nodes = 0; edges = 0 } ≡ acceptedHeader s
-    unfolding header
-    tree-refused n =
-        let six : refusal s ≡ 6 = passed-form s b formed-zero ∙ rw n in
-        sym (ap (λ (r : ℕ). header r (jobOf s)) six)
+    -- What question 6 then says.
+    module _ (r : ℕ) (said : r ≡ treeRefusal (jobOf s)) where
+      whole : r ≡ refusal s
+      whole = said ∙ sym (passed-form s b formed-zero)
 
-    pub tree-accepted : question6 (jobOf s) ≡ true → h ≡ acceptedHeader s
-    tree-accepted y =
-        let zero : refusal s ≡ 0 = passed-form s b formed-zero ∙ rw y in
-        e ∙ ap (λ (r : ℕ). header r (jobOf s)) (formed-zero ∙ sym zero)
+      pub tree-refused : (r ≡ 0 → ⊥) → refusedHeader r ≡ acceptedHeader s
+      tree-refused n = refused-header r (jobOf s) n ∙ ap (λ (r : ℕ). header r (jobOf s)) whole
+
+      pub tree-accepted : r ≡ 0 → h ≡ acceptedHeader s
+      tree-accepted none = e ∙ ap (λ (r : ℕ). header r (jobOf s)) (formed-zero ∙ sym none ∙ whole)
 
 -- What `accept` said, by its refusal.
 module _ (s : List ℕ) (h : Header) (e : h ≡ acceptedHeader s) where

@@ -1,11 +1,12 @@
 -- A job frame accepted into arrays. Definitions only. Assumes nothing.
-use Prim.Native.Nat.{ℕ, _-_}
+use Prim.Native.Nat.{ℕ, _-_, _≤_}
 use mathlib.Core.Path.{_≡_}
 use mathlib.Core.List.{List}
 use lib.ListN.{length, getD, take}
 use Rattle.graph.specs.Rank.{treeRanks}
-use Rattle.frame.specs.Job.{Job, link, graphOf, treeOf, costOf}
-use Rattle.frame.specs.Questions.{jobOf, refusal}
+use Rattle.frame.specs.Job.{Job, link, jobNumbers, graphOf, treeOf, costOf}
+use Rattle.frame.specs.Questions.{jobOf, ask, question6, refusal}
+use Rattle.frame.specs.Meaning.{Small, EndsHold}
 use Rattle.leb128.specs.Number.{Bytes}
 use Rattle.tree.specs.Arrays.{Ranked, Walked}
 use Rattle.job.specs.declared.read.Header.{Header}
@@ -20,6 +21,10 @@ pub record Empty (as₁ as₂ as₃ as₄ ts : List ℕ) : Type 0 where
   pub mark : as₄ ≡ zeros 256
   pub ranks : length ts ≡ 256
 
+-- The refusal of question 6, once the others are passed.
+abbrev pub treeRefusal : Job → ℕ
+treeRefusal j = ask (question6 j) 6 λ _. 0
+
 -- A refusal has no counts.
 abbrev pub refusedHeader : ℕ → Header
 refusedHeader r = record { refusal = r; nodes = 0; edges = 0 }
@@ -27,6 +32,24 @@ refusedHeader r = record { refusal = r; nodes = 0; edges = 0 }
 -- The refusal of questions 1 to 6, or the counts.
 abbrev pub acceptedHeader : List ℕ → Header
 acceptedHeader s = header (refusal s) (jobOf s)
+
+-- A job of good form whose numbers stand in arrays, at every place.
+pub record Stored (j : Job) (as₁ as₂ as₃ as₄ : List ℕ) : Type 0 where
+  pub end₁ : _≡_ {A = ℕ → ℕ} (λ e. getD as₁ e 0) (λ e. link j e .end₁)
+  pub end₂ : _≡_ {A = ℕ → ℕ} (λ e. getD as₂ e 0) (λ e. link j e .end₂)
+  pub cost : _≡_ {A = ℕ → ℕ} (λ e. getD as₃ e 0) (costOf j)
+  pub mark : _≡_ {A = ℕ → ℕ} (λ e. getD as₄ e 0) (λ e. link j e .mark)
+  pub places : length as₃ ≡ 256
+  pub nodes-few : j .nodes ≤ 64
+  pub edges-few : length (j .links) ≤ 256
+  pub small : Small (jobNumbers j)
+  pub ends-hold : EndsHold j
+
+-- The same, of so many stations and links.
+pub record StoredAs (j : Job) (nodes edges : ℕ) (as₁ as₂ as₃ as₄ : List ℕ) : Type 0 where
+  pub stored : Stored j as₁ as₂ as₃ as₄
+  pub nodes-are : nodes ≡ j .nodes
+  pub edges-are : edges ≡ length (j .links)
 
 -- The job j in arrays, with its tree edges by rank and its tree paths.
 pub record Held (j : Job) (as₁ as₂ as₃ as₄ ts mask : List ℕ) : Type 0 where

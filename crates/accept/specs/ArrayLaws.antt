@@ -24,7 +24,7 @@ use Rattle.ranks.specs.Keys.{treeList, SmallCosts}
 use Rattle.job.specs.Reading.{Loaded, arrays, filled, firsts, seconds, costs, marks, Places}
 use Rattle.job.specs.Held.{held, length-zeros}
 use Rattle.job.specs.JobRoundTrip.{links-few}
-use Rattle.accept.specs.Accepting.{Empty, Held}
+use Rattle.accept.specs.Accepting.{Empty, Stored, StoredAs, Held, treeRefusal}
 
 abbrev placesOf : List ℕ → ℕ → ℕ
 placesOf l e = getD l e 0
@@ -37,18 +37,6 @@ empty-places e =
       cost = ap length (e .cost) ∙ length-zeros 256;
       mark = ap length (e .mark) ∙ length-zeros 256;
     }
-
--- A job of good form whose numbers stand in arrays, at every place.
-pub record Stored (j : Job) (as₁ as₂ as₃ as₄ : List ℕ) : Type 0 where
-  pub end₁ : _≡_ {A = ℕ → ℕ} (λ e. getD as₁ e 0) (λ e. link j e .end₁)
-  pub end₂ : _≡_ {A = ℕ → ℕ} (λ e. getD as₂ e 0) (λ e. link j e .end₂)
-  pub cost : _≡_ {A = ℕ → ℕ} (λ e. getD as₃ e 0) (costOf j)
-  pub mark : _≡_ {A = ℕ → ℕ} (λ e. getD as₄ e 0) (λ e. link j e .mark)
-  pub places : length as₃ ≡ 256
-  pub nodes-few : j .nodes ≤ 64
-  pub edges-few : length (j .links) ≤ 256
-  pub small : Small (jobNumbers j)
-  pub ends-hold : EndsHold j
 
 -- A frame of good form, read into arrays of zeros, is so stored.
 pub stored :
@@ -74,37 +62,52 @@ stored s z₁ z₂ z₃ z₄ ts₀ as₁ as₂ as₃ as₄ b none empty full =
       ends-hold = subst EndsHold (sym (job-of s ns b (f .divides))) (f .ends);
     }
 
-module _ (j : Job) (as₁ as₂ as₃ as₄ : List ℕ) (h : Stored j as₁ as₂ as₃ as₄) where
-  graph-is : (n m : ℕ) → n ≡ j .nodes → m ≡ length (j .links) → arrayGraph n m as₁ as₂ ≡ graphOf j
-  graph-is n m p q i = record { nodes = p i; edges = q i; end₁ = h .end₁ i; end₂ = h .end₂ i; live = λ _. true }
+module _ {j : Job} {n m : ℕ} {as₁ as₂ as₃ as₄ : List ℕ} (k : StoredAs j n m as₁ as₂ as₃ as₄) where
+  h : Stored j as₁ as₂ as₃ as₄
+  h = k .stored
 
-  pub costs-small : (m : ℕ) → SmallCosts m as₃
-  costs-small m e l = omega (arith, ap (λ (c : ℕ → ℕ). c e) (h .cost), cost-small j (h .small) e)
+  pn : n ≡ j .nodes
+  pn = k .nodes-are
+
+  pm : m ≡ length (j .links)
+  pm = k .edges-are
+
+  graph-is : arrayGraph n m as₁ as₂ ≡ graphOf j
+  graph-is i = record { nodes = pn i; edges = pm i; end₁ = h .end₁ i; end₂ = h .end₂ i; live = λ _. true }
+
+  pub edges-most : m ≤ 256
+  edges-most = omega (arith, pm, h .edges-few)
+
+  pub costs-small : SmallCosts m as₃
+  costs-small e l = omega (arith, ap (λ (c : ℕ → ℕ). c e) (h .cost), cost-small j (h .small) e)
 
   -- The tree edges by rank.
   byRank : ℕ → (ℕ → ℕ) → (ℕ → ℕ) → List ℕ
   byRank m c k = sorted (λ x y. leb (c y) (c x)) (members m (λ e. eqb (k e) 1))
 
-  ranks-are : (m : ℕ) → m ≡ length (j .links) → treeList m as₃ as₄ ≡ treeRanks (graphOf j) (treeOf j) (costOf j)
+  ranks-are : treeList m as₃ as₄ ≡ treeRanks (graphOf j) (treeOf j) (costOf j)
   unfolding byRank
-  ranks-are m q = ap₂ (byRank m) (h .cost) (h .mark) ∙ ap (λ (m : ℕ). byRank m (costOf j) (λ e. link j e .mark)) q
+  ranks-are = ap₂ (byRank m) (h .cost) (h .mark) ∙ ap (λ (m : ℕ). byRank m (costOf j) (λ e. link j e .mark)) pm
 
   -- The code's count of tree edges, and its ranks.
-  module _ (n m count : ℕ) (ts : List ℕ) (pn : n ≡ j .nodes) (pm : m ≡ length (j .links)) (size : count ≡ length (treeList m as₃ as₄)) (ranked : take count ts ≡ treeList m as₃ as₄) (places : length ts ≡ 256) where
+  module _ (count : ℕ) (ts : List ℕ) (size : count ≡ length (treeList m as₃ as₄)) (ranked : take count ts ≡ treeList m as₃ as₄) (places : length ts ≡ 256) where
     ts-are : take count ts ≡ treeRanks (graphOf j) (treeOf j) (costOf j)
-    ts-are = ranked ∙ ranks-are m pm
+    ts-are = ranked ∙ ranks-are
 
     ts-count : count ≡ length (treeRanks (graphOf j) (treeOf j) (costOf j))
-    ts-count = size ∙ ap length (ranks-are m pm)
+    ts-count = size ∙ ap length (ranks-are)
 
     pub count-few : count ≤ 256
     count-few =
         omega (arith, ts-count, tree-lists (graphOf j) (treeOf j) (costOf j) .size, count-below (length (j .links)) (treeOf j), h .edges-few)
 
     -- Another number of tree edges than it should be.
-    pub count-wrong : (count + 1 ≡ n → ⊥) → question6 j ≡ false
+    question-wrong : (count + 1 ≡ n → ⊥) → question6 j ≡ false
     unfolding question6
-    count-wrong w = rw (← ts-count, ne-eqb (suc count) (j .nodes) (λ q. w (omega (arith, q, pn))))
+    question-wrong w = rw (← ts-count, ne-eqb (suc count) (j .nodes) (λ q. w (omega (arith, q, pn))))
+
+    pub count-wrong : (count + 1 ≡ n → ⊥) → 6 ≡ treeRefusal j
+    count-wrong w = rw (question-wrong w)
 
     module _ (right : count + 1 ≡ n) where
       rank-edge : (k : ℕ) → k < count → getD ts k 0 < length (j .links)
@@ -123,9 +126,15 @@ module _ (j : Job) (as₁ as₂ as₃ as₄ : List ℕ) (h : Stored j as₁ as�
             second = λ k l. omega (arith, ap (λ (f : ℕ → ℕ). f (getD ts k 0)) (h .end₂), h .ends-hold .second (getD ts k 0) (rank-edge k l), pn);
           }
 
-      pub tree-answer : (r : Bool) → ((edges : ℕ) → r ≡ isTree (arrayGraph n edges as₁ as₂) (take count ts)) → r ≡ question6 j
+      tree-answer : (r : Bool) → ((edges : ℕ) → r ≡ isTree (arrayGraph n edges as₁ as₂) (take count ts)) → r ≡ question6 j
       unfolding question6
-      tree-answer r said = said m ∙ ap₂ isTree (graph-is n m pn pm) ts-are
+      tree-answer r said = said m ∙ ap₂ isTree graph-is ts-are
+
+      pub tree-wrong : (r : Bool) → ((edges : ℕ) → r ≡ isTree (arrayGraph n edges as₁ as₂) (take count ts)) → r ≡ false → 6 ≡ treeRefusal j
+      tree-wrong r said f = let no : question6 j ≡ false = sym (tree-answer r said) ∙ f in rw no
+
+      pub tree-right : (r : Bool) → ((edges : ℕ) → r ≡ isTree (arrayGraph n edges as₁ as₂) (take count ts)) → r ≡ true → 0 ≡ treeRefusal j
+      tree-right r said y = let yes : question6 j ≡ true = sym (tree-answer r said) ∙ y in rw yes
 
       pub tree-held : (mask : List ℕ) → Walked n count ts as₁ as₂ n mask → Held j as₁ as₂ as₃ as₄ ts mask
       tree-held mask w =

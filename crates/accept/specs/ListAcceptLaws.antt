@@ -1,5 +1,5 @@
 -- A list of records is accepted as its frame is. Assumes nothing.
-use Prim.Native.Nat.{ℕ, zero, suc}
+use Prim.Native.Nat.{ℕ}
 use mathlib.Core.Path.{_≡_, refl, sym, ap, ap₂, subst, _∙_}
 use mathlib.Core.Bool.{true, false}
 use mathlib.Core.List.{List}
@@ -8,7 +8,7 @@ use Rattle.loops.specs.Loop.{tabulate}
 use Rattle.loops.specs.TestLaws.{clash}
 use Rattle.loops.specs.GatherLaws.{tabulate-getD}
 use Rattle.frame.specs.Job.{Job, noEdge, jobFrame}
-use Rattle.frame.specs.Questions.{jobOf, ask, question6, refusal}
+use Rattle.frame.specs.Questions.{jobOf, refusal}
 use Rattle.frame.specs.Services.{small, listRefusal}
 use Rattle.frame.specs.Lists.{list-as-frame, list-passed, list-read}
 use Rattle.frame.specs.Accepted.{list-accepted}
@@ -16,20 +16,16 @@ use Rattle.job.specs.declared.read.Header.{Header}
 use Rattle.job.specs.Reading.{rows, header}
 use Rattle.job.specs.Writing.{jobAt}
 use Rattle.job.specs.WritingLaws.{rows-length}
-use Rattle.accept.specs.Accepting.{Held, refusedHeader}
+use Rattle.accept.specs.Accepting.{Held, treeRefusal, refusedHeader}
+use Rattle.accept.specs.AcceptLaws.{refused-header}
 use Rattle.accept.specs.ListJobs.{ListAccepted, SomeHeld}
 
 -- The first refusal of a list whose numbers are small is its frame's; of any other it is 1.
 pub frame-number : (j : Job) → small j ≡ true → refusal (jobFrame j) ≡ listRefusal j
-frame-number j y = sym (list-as-frame (λ j. ask (question6 j) 6 λ _. 0) j y)
+frame-number j y = sym (list-as-frame treeRefusal j y)
 
 pub large-number : (j : Job) → small j ≡ false → listRefusal j ≡ 1
 large-number j f = rw f
-
-refused-header : (r : ℕ) (j : Job) → (r ≡ 0 → ⊥) → refusedHeader r ≡ header r j
-unfolding header
-refused-header zero j n = absurd (n refl)
-refused-header (suc r) j n = refl
 
 -- What is said of a refused list, and of an accepted one.
 pub list-refused :
@@ -53,7 +49,7 @@ pub list-held :
     ListAccepted j h as₁ as₂ as₃ as₄ ts mask
 unfolding header
 list-held j h as₁ as₂ as₃ as₄ ts mask e is hold =
-    let y = list-passed (λ j. ask (question6 j) 6 λ _. 0) j e .0 .small in
+    let y = list-passed treeRefusal j e .0 .small in
     record {
       large = λ f. clash y f;
       header = λ _. is ∙ ap₂ header (sym (frame-number j y ∙ e)) (sym (list-read j y));

@@ -8,14 +8,14 @@ use mathlib.Core.List.{List}
 use lib.ListN.{getD, List·getD-eq-default}
 use Rattle.loops.specs.GatherLaws.{getD-tabulate}
 use Rattle.frame.specs.Job.{Edge, Job, noEdge, link}
-use Rattle.frame.specs.Questions.{ask, question4, question5, question6}
+use Rattle.frame.specs.Questions.{ask, question4, question5}
 use Rattle.frame.specs.Services.{small, counted, listFormRefusal, listRefusal}
 use Rattle.frame.specs.Lists.{listed, list-passed, small-job, counted-limits}
 use Rattle.job.specs.Reading.{rows}
 use Rattle.job.specs.Writing.{jobAt}
 use Rattle.job.specs.WritingLaws.{rows-length}
 use Rattle.accept.specs.Lists.{ListHeld}
-use Rattle.accept.specs.ArrayLaws.{Stored}
+use Rattle.accept.specs.Accepting.{Stored, treeRefusal}
 
 -- Four questions in turn, and then x.
 abbrev chain : Bool → Bool → Bool → Bool → ℕ → ℕ
@@ -36,10 +36,10 @@ chain-refused true false c d x h = refl
 chain-refused false b c d x h = refl
 
 pub list-form-refused : (j : Job) → (listFormRefusal j ≡ 0 → ⊥) → listRefusal j ≡ listFormRefusal j
-list-form-refused j n = chain-refused (small j) (counted j) (question4 j) (question5 j) (ask (question6 j) 6 λ _. 0) n
+list-form-refused j n = chain-refused (small j) (counted j) (question4 j) (question5 j) (treeRefusal j) n
 
-pub list-tree : (j : Job) → listFormRefusal j ≡ 0 → listRefusal j ≡ ask (question6 j) 6 λ _. 0
-list-tree j z = chain-passed (small j) (counted j) (question4 j) (question5 j) (ask (question6 j) 6 λ _. 0) z
+pub list-tree : (j : Job) → listFormRefusal j ≡ 0 → listRefusal j ≡ treeRefusal j
+list-tree j z = chain-passed (small j) (counted j) (question4 j) (question5 j) (treeRefusal j) z
 
 module _ (nodes edges : ℕ) (as₁ as₂ as₃ as₄ : List ℕ) (h : ListHeld edges as₁ as₂ as₃ as₄) where
   row : ℕ → Edge
@@ -79,4 +79,4 @@ module _ (nodes edges : ℕ) (as₁ as₂ as₃ as₄ : List ℕ) (h : ListHeld 
 pub list-accepted-few : (nodes edges : ℕ) (as₁ as₂ as₃ as₄ : List ℕ) → listRefusal (jobAt nodes edges as₁ as₂ as₃ as₄) ≡ 0 → edges ≤ 256
 list-accepted-few nodes edges as₁ as₂ as₃ as₄ z =
     let j = jobAt nodes edges as₁ as₂ as₃ as₄ in
-    omega (arith, counted-limits j (list-passed (λ j. ask (question6 j) 6 λ _. 0) j z .0 .counted), rows-length edges as₁ as₂ as₃ as₄)
+    omega (arith, counted-limits j (list-passed treeRefusal j z .0 .counted), rows-length edges as₁ as₂ as₃ as₄)

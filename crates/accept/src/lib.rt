@@ -2,10 +2,11 @@
 // paths.
 ghost use mathlib.Core.Path.{_≡_};
 ghost use lib.ListN.{length};
+ghost use Rattle.frame.specs.Job.{Job};
 ghost use Rattle.frame.specs.Questions.{jobOf};
 ghost use Rattle.frame.specs.Services.{listRefusal};
 ghost use Rattle.job.specs.Writing.{jobAt};
-ghost use Rattle.accept.specs.Accepting.{Empty, Held, acceptedHeader, refusedHeader};
+ghost use Rattle.accept.specs.Accepting.{Empty, StoredAs, Held, treeRefusal, acceptedHeader, refusedHeader};
 ghost use Rattle.accept.specs.Lists.{ListHeld};
 ghost use Rattle.accept.specs.ListJobs.{countRefusal, Given, ListAccepted, SomeHeld};
 use job::read::Header;
@@ -20,6 +21,33 @@ pub fn refused(refusal: u32) -> Header
         nodes: 0,
         edges: 0,
     }
+}
+
+// Question 6 of a job in arrays that has passed the others: 6, or 0, and then the tree ranks and paths are found.
+fn tree_refusal(
+    nodes: u32,
+    edges: usize,
+    end1: &[u32; 256],
+    end2: &[u32; 256],
+    cost: &[u32; 256],
+    mark: &[u32; 256],
+    ts: &mut [u32; 256],
+    mask: &mut [u64; 64],
+) -> u32
+    requires { ⌜ ((j : Job) × StoredAs j nodes edges (now end1) (now end2) (now cost) (now mark)) ⌝ }
+    requires { ⌜ length (now ts) ≡ 256 ⌝ }
+    ensures refusal { λ r. ⌜ ((j : Job) → StoredAs j nodes edges (now (end1 .entry)) (now (end2 .entry)) (now (cost .entry)) (now (mark .entry)) → r ≡ treeRefusal j) ⌝ }
+    ensures held { λ r. ⌜ ((j : Job) → StoredAs j nodes edges (now (end1 .entry)) (now (end2 .entry)) (now (cost .entry)) (now (mark .entry)) → r ≡ 0
+        → Held j (now (end1 .entry)) (now (end2 .entry)) (now (cost .entry)) (now (mark .entry)) (now (ts .exit)) (now (mask .exit))) ⌝ }
+{
+    let count = ranks::tree_ranks(edges, cost, mark, ts);
+    if count + 1 != nodes as usize {
+        return 6;
+    }
+    if !tree::question6(nodes, ts, count, end1, end2, mask) {
+        return 6;
+    }
+    0
 }
 
 // The first refusal of questions 1 to 6; or the counts, with the job in the arrays.
@@ -41,14 +69,10 @@ pub fn accept(
     if refusal != 0 {
         return header;
     }
-    let nodes = header.nodes;
     let edges = header.edges as usize;
-    let count = ranks::tree_ranks(edges, cost, mark, ts);
-    if count + 1 != nodes as usize {
-        return refused(6);
-    }
-    if !tree::question6(nodes, ts, count, end1, end2, mask) {
-        return refused(6);
+    let wrong = tree_refusal(header.nodes, edges, end1, end2, cost, mark, ts, mask);
+    if wrong != 0 {
+        return refused(wrong);
     }
     header
 }
@@ -75,14 +99,7 @@ pub fn accept_list(
     if refusal != 0 {
         return refusal;
     }
-    let count = ranks::tree_ranks(edges, cost, mark, ts);
-    if count + 1 != nodes as usize {
-        return 6;
-    }
-    if !tree::question6(nodes, ts, count, end1, end2, mask) {
-        return 6;
-    }
-    0
+    tree_refusal(nodes, edges, end1, end2, cost, mark, ts, mask)
 }
 
 // The refusal that is known before a link is looked at: by the word on large numbers and by the counts.

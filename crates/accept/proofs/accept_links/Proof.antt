@@ -2,14 +2,14 @@
 use Prim.Native.Nat.{ℕ, _≤_}
 use mathlib.Core.Path.{_≡_, sym, ap, subst, _∙_}
 use native.Mathlib.Omega.{arith}
-use lib.ListN.{length, take, length-map}
+use lib.ListN.{take, length-map}
 use lib.Seq.{length-take-le}
 use Rattle.frame.specs.Job.{Job}
 use Rattle.frame.specs.Services.{listRefusal}
-use Rattle.job.specs.declared.read.Header.{Header}
 use Rattle.job.specs.Writing.{jobAt}
 use Rattle.accept.specs.Accepting.{Held, refusedHeader}
 use Rattle.accept.specs.Lists.{ListHeld}
+use Rattle.accept.specs.AcceptLaws.{refused-nonzero}
 use Rattle.accept.specs.ArrayLaws.{empty-places}
 use Rattle.accept.specs.ListJobs.{edgeOf, listJob, countRefusal}
 use Rattle.accept.specs.ListJobLaws.{count-few, columns-held, columns-job}
@@ -17,9 +17,6 @@ use Rattle.accept.specs.ListAcceptLaws.{list-refused, list-held, some-he
 use borrow.Author.Needs.{needs}
 use Rattle.accept.proofs.accept_links.Statement.{statement}
 use Rattle.accept.proofs.accept_links.Tie as tie
-
-nonzero : (h : Header) (r : ℕ) → h ≡ refusedHeader r → (r ≡ 0 → ⊥) → h .refusal ≡ 0 → ⊥
-nonzero h r e n z = n (sym (ap (λ (h : Header). h .refusal) e) ∙ z)
 
 -- the word and the counts refuse nothing
 passed : (k : tie.Else1) → let a = k .before .before .args in countRefusal (a .nodes) (a .count) (a .small) ≡ 0
@@ -71,7 +68,7 @@ returns c =
         refused = λ _. c .refused .ensures ∙ ap refusedHeader (t .count-refusal .ensures);
         said = λ z. absurd (n (t .count-refusal .ensures ∙ z));
       },
-      λ z. absurd (nonzero (c .refused .result) (t .count-refusal .result) (c .refused .ensures) n z),
+      λ z. absurd (refused-nonzero (c .refused .result) (t .count-refusal .result) (c .refused .ensures) n z),
     )
 
 spread-requires : tie.Need-spread-requires
@@ -95,7 +92,7 @@ returns-2 c =
         refused = λ w. absurd (w (passed k));
         said = λ _. list-refused (listJob (a .nodes) (take (a .count) (a .links))) (t .accept-list .result) (c .refused2 .result) _ _ _ _ _ _ (number t) n (c .refused2 .ensures);
       },
-      λ z. absurd (nonzero (c .refused2 .result) (t .accept-list .result) (c .refused2 .ensures) n z),
+      λ z. absurd (refused-nonzero (c .refused2 .result) (t .accept-list .result) (c .refused2 .ensures) n z),
     )
 
 cast-t25 : tie.Need-cast-t25

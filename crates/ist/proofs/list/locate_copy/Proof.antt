@@ -1,5 +1,4 @@
 -- `ist::list::locate_copy` meets its contract: the part's offset and length. Assumes nothing.
-use Rattle.leb128.specs.Number.{Bytes}
 use Rattle.lists.specs.LentLaws.{lent-as, lent-located}
 use borrow.Author.Needs.{needs}
 use Rattle.ist.proofs.list.locate_copy.Statement.{statement}
