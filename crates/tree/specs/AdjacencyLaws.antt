@@ -11,25 +11,34 @@ use lib.Seq.{getD-set-same, getD-set-other}
 use borrow.Author.Tests.{eq-eqb, ne-eqb, lt-ltb, le-ltb}
 use Rattle.bits.specs.Bit.{bit}
 use Rattle.bits.specs.BitLaws.{bit-zero}
-use Rattle.tree.specs.Arrays.{Adjacency}
+use Rattle.tree.specs.Arrays.{endOf, RankPut, Adjacency}
 
 -- Rank k put into the word at place u.
-rank-put :
-    (adj : List ℕ) (u k x : ℕ) → u < length adj → ((j : ℕ) → bit x j ≡ (bit (getD adj u 0) j || eqb k j))
-    → (v j : ℕ) → bit (getD (set adj u x) v 0) j ≡ (bit (getD adj v 0) j || (eqb u v && eqb k j))
-rank-put adj u k x l h v j =
-    elim (ℕ-discrete v u) [
-      | yes e ↦ rw (e, getD-set-same adj u x 0 l, eq-eqb u u refl) (h j)
-      | no d ↦ rw (getD-set-other adj u v x 0 d, ne-eqb u v (λ e. d (sym e))) (sym (or-false (bit (getD adj v 0) j)))
-    ]
+pub rank-put :
+    (adj : List ℕ) (u k x : ℕ) → u < 64 → length adj ≡ 64 → ((j : ℕ) → bit x j ≡ (bit (getD adj u 0) j || eqb k j))
+    → RankPut k (eqb u) adj (set adj u x)
+rank-put adj u k x l s h = record { places = length-set adj u x ∙ s; own = own }
+  where
+    own : (v j : ℕ) → bit (getD (set adj u x) v 0) j ≡ (bit (getD adj v 0) j || (eqb u v && eqb k j))
+    own v j =
+        elim (ℕ-discrete v u) [
+          | yes e ↦ rw (e, getD-set-same adj u x 0 (omega arith), eq-eqb u u refl) (h j)
+          | no d ↦ rw (getD-set-other adj u v x 0 d, ne-eqb u v (λ e. d (sym e))) (sym (or-false (bit (getD adj v 0) j)))
+        ]
 
--- Two ends or one, and a rank that is new.
-both-new : (a b : Bool) → ((false || (a && true)) || (b && true)) ≡ (true && (a || b))
-both-new true b = refl
-both-new false b = and-true b
+-- And then into other words.
+both-put : (c a b k : Bool) → ((c || (a && k)) || (b && k)) ≡ (c || ((a || b) && k))
+both-put true a b k = refl
+both-put false true b true = refl
+both-put false true true false = refl
+both-put false true false false = refl
+both-put false false b k = refl
 
-both-old : (c a b : Bool) → ((c || (a && false)) || (b && false)) ≡ c
-both-old c a b = rw (and-false a, and-false b) (or-false (c || false) ∙ or-false c)
+pub rank-put-both :
+    (k : ℕ) (p q : ℕ → Bool) (adj adj′ adj″ : List ℕ) → RankPut k p adj adj′ → RankPut k q adj′ adj″
+    → RankPut k (λ v. p v || q v) adj adj″
+rank-put-both k p q adj adj′ adj″ f g =
+    record { places = g .places; own = λ v j. g .own v j ∙ rw (f .own v j) (both-put (bit (getD adj v 0) j) (p v) (q v) (eqb k j)) }
 
 passed : (j k : ℕ) → (j ≡ k → ⊥) → ltb j (k + 1) ≡ ltb j k
 passed j k d =
@@ -50,27 +59,17 @@ pub adjacency-start : (ranks as₁ as₂ : List ℕ) → Adjacency 0 ranks as₁
 adjacency-start ranks as₁ as₂ =
     record { places = refl; own = λ v k. rw (none-held 64 v, le-ltb k 0 (omega arith)) (bit-zero k) }
 
-module _ (ranks as₁ as₂ : List ℕ) (k : ℕ) (adj : List ℕ) (h : Adjacency k ranks as₁ as₂ adj) where
-  pub adjacency-turn :
-      (x y : ℕ) → getD as₁ (getD ranks k 0) 0 < 64 → getD as₂ (getD ranks k 0) 0 < 64
-      → ((j : ℕ) → bit x j ≡ (bit (getD adj (getD as₁ (getD ranks k 0) 0) 0) j || eqb k j))
-      → ((j : ℕ) → bit y j ≡ (bit (getD (set adj (getD as₁ (getD ranks k 0) 0) x) (getD as₂ (getD ranks k 0) 0) 0) j || eqb k j))
-      → Adjacency (k + 1) ranks as₁ as₂ (set (set adj (getD as₁ (getD ranks k 0) 0) x) (getD as₂ (getD ranks k 0) 0) y)
-  adjacency-turn x y a b hx hy = record { places = length-set (set adj u x) w y ∙ length-set adj u x ∙ h .places; own = own }
-    where
-      u : ℕ
-      u = getD as₁ (getD ranks k 0) 0
-
-      w : ℕ
-      w = getD as₂ (getD ranks k 0) 0
-
-      own : (v j : ℕ) → bit (getD (set (set adj u x) w y) v 0) j ≡ (ltb j (k + 1) && (eqb (getD as₁ (getD ranks j 0) 0) v || eqb (getD as₂ (getD ranks j 0) 0) v))
-      own v j =
-          rank-put (set adj u x) w k y (omega (arith, length-set adj u x, h .places)) hy v j
-          ∙ rw (rank-put adj u k x (omega (arith, h .places)) hx v j, h .own v j)
-          (elim (ℕ-discrete j k) [
-            | yes e ↦ rw (e, le-ltb k k (omega arith), lt-ltb k (k + 1) (omega arith), eq-eqb k k refl) (both-new (eqb u v) (eqb w v))
-            | no d ↦
-                rw (ne-eqb k j (λ e. d (sym e)), passed j k d)
-                (both-old (ltb j k && (eqb (getD as₁ (getD ranks j 0) 0) v || eqb (getD as₂ (getD ranks j 0) 0) v)) (eqb u v) (eqb w v))
-          ])
+-- The rank of one more tree edge.
+pub adjacency-turn :
+    (ranks as₁ as₂ : List ℕ) (k : ℕ) (adj adj′ : List ℕ) → Adjacency k ranks as₁ as₂ adj
+    → RankPut k (endOf as₁ as₂ (getD ranks k 0)) adj adj′ → Adjacency (k + 1) ranks as₁ as₂ adj′
+adjacency-turn ranks as₁ as₂ k adj adj′ h f =
+    record {
+      places = f .places;
+      own = λ v j. f .own v j ∙ rw (h .own v j) (elim (ℕ-discrete j k) [
+        | yes e ↦ rw (e, le-ltb k k (omega arith), lt-ltb k (k + 1) (omega arith), eq-eqb k k refl) (and-true (endOf as₁ as₂ (getD ranks k 0) v))
+        | no d ↦
+            rw (ne-eqb k j (λ e. d (sym e)), passed j k d, and-false (endOf as₁ as₂ (getD ranks k 0) v))
+            (or-false (ltb j k && endOf as₁ as₂ (getD ranks j 0) v))
+      ]);
+    }

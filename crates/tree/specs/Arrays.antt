@@ -60,6 +60,23 @@ pub record Room (found u v k : ℕ) (mask : List ℕ) : Type 0 where
   pub rank : k < 64
   pub places : length mask ≡ 64
 
+-- Node v is an end of edge e.
+abbrev pub endOf : List ℕ → List ℕ → ℕ → ℕ → Bool
+endOf as₁ as₂ e v = eqb (getD as₁ e 0) v || eqb (getD as₂ e 0) v
+
+-- Rank k is put into the words of the nodes of which p holds; nothing else in them changes.
+pub record RankPut (k : ℕ) (p : ℕ → Bool) (adj adj′ : List ℕ) : Type 0 where
+  pub places : length adj′ ≡ 64
+  pub own : (v j : ℕ) → bit (getD adj′ v 0) j ≡ (bit (getD adj v 0) j || (p v && eqb k j))
+
+-- A rank and an edge between two nodes, and 64 words.
+pub record Placed (k e : ℕ) (as₁ as₂ adj : List ℕ) : Type 0 where
+  pub rank : k < 64
+  pub edge : e < 256
+  pub first : getD as₁ e 0 < 64
+  pub second : getD as₂ e 0 < 64
+  pub places : length adj ≡ 64
+
 -- The first `count` places of `ranks` name edges of the arrays, each between two nodes.
 pub record Ranked (nodes count : ℕ) (ranks as₁ as₂ : List ℕ) : Type 0 where
   pub small : nodes ≤ 64

@@ -2,10 +2,11 @@
 ghost use mathlib.Core.Path.{_≡_};
 ghost use mathlib.Core.Bool.{true};
 ghost use Prim.Native.Nat.{ℕ, _<_, _≤_};
+ghost use lib.Dec.{eqb};
 ghost use lib.ListN.{length, take};
 ghost use Rattle.bits.specs.Bit.{bit};
 ghost use Rattle.graph.specs.Paths.{attach, rooted, isTree, judge as judged};
-ghost use Rattle.tree.specs.Arrays.{arrayGraph, arrayTree, arrayCost, paths, across, held, tried, triedWord, Room, Ranked, Adjacency, Named, Walked, spareHolds, Spare, Judged};
+ghost use Rattle.tree.specs.Arrays.{arrayGraph, arrayTree, arrayCost, paths, across, held, tried, triedWord, endOf, Room, RankPut, Placed, Ranked, Adjacency, Named, Walked, spareHolds, Spare, Judged};
 use ids::Edge;
 use ids::Node;
 use ids::TreeRank;
@@ -50,6 +51,33 @@ fn grow(front: Front, u: Node, v: Node, k: TreeRank, mask: &mut [u64; 64]) -> Fr
     front
 }
 
+// Puts a rank into the word of one node.
+fn put_rank(k: TreeRank, u: Node, adj: &mut [u64; 64])
+    requires { ⌜ (k .0 < 64) × (u .0 < 64) × (length (now adj) ≡ 64) ⌝ }
+    ensures { λ r. ⌜ RankPut (k .0) (eqb (u .0)) (now (adj .entry)) (now (adj .exit)) ⌝ }
+{
+    let at = u.0 as usize;
+    adj[at] = bits::with(adj[at], k.0);
+}
+
+// Puts the rank of a tree edge into the words of its two ends.
+fn put_edge(
+    k: TreeRank,
+    e: Edge,
+    end1: &[u32; 256],
+    end2: &[u32; 256],
+    adj: &mut [u64; 64],
+)
+    requires { ⌜ Placed (k .0) (e .0) (now end1) (now end2) (now adj) ⌝ }
+    ensures { λ r. ⌜ RankPut (k .0) (endOf (now (end1 .entry)) (now (end2 .entry)) (e .0)) (now (adj .entry)) (now (adj .exit)) ⌝ }
+{
+    let i = e.0 as usize;
+    let u = end1[i];
+    let v = end2[i];
+    put_rank(k, Node(u), adj);
+    put_rank(k, Node(v), adj);
+}
+
 // Puts the rank of every tree edge into the words of its two ends; the words hold no rank at entry.
 fn adjacency(
     ranks: &[u32; 256],
@@ -64,12 +92,9 @@ fn adjacency(
 {
     let mut k: usize = 0;
     while k < count {
-        let e = ranks[k] as usize;
-        let u = end1[e] as usize;
-        let v = end2[e] as usize;
+        let e = ranks[k];
         let rank = k as u32;
-        adj[u] = bits::with(adj[u], rank);
-        adj[v] = bits::with(adj[v], rank);
+        put_edge(TreeRank(rank), Edge(e), end1, end2, adj);
         k += 1;
     }
 }
@@ -127,9 +152,9 @@ pub fn root_paths(
         if waiting == 0 {
             return front.found;
         }
-        let v = bits::lowest(waiting);
-        front = expand(front, adj[v as usize], ranks, end1, end2, mask);
-        done = bits::with(done, v);
+        let v = Node(bits::lowest(waiting));
+        front = expand(front, adj[v.0 as usize], ranks, end1, end2, mask);
+        done = bits::with(done, v.0);
         rounds -= 1;
     }
     front.found

@@ -44,17 +44,17 @@ lowest-requires : tie.Need-lowest-requires Inv-loop μ-loop
 lowest-requires c κs = omega arith
 
 cast-expand : tie.Need-cast-expand Inv-loop μ-loop
-cast-expand c = omega (arith, node-below c)
+cast-expand c = omega (arith, node-below (c .before))
 
 mul-expand : tie.Need-mul-expand Inv-loop μ-loop
-mul-expand c = omega (arith, node-below c)
+mul-expand c = omega (arith, node-below (c .before))
 
 array-read-expand : tie.Need-array-read-expand Inv-loop μ-loop
-array-read-expand c = node-below c
+array-read-expand c = node-below (c .before)
 
 expand-requires : tie.Need-expand-requires Inv-loop μ-loop
 expand-requires c κs =
-    let e = c .before in
+    let e = c .before .before in
     let l = e .before .before .before .before .loop in
     let s = e .before .before .before .before .before .before .before .before in (
       word-named (s .args .count) (s .args .ranks .now) (s .args .end1 .now) (s .args .end2 .now) _ (s .pre .few) (s .pre .within) (l .inv .0)
@@ -63,7 +63,7 @@ expand-requires c κs =
     )
 
 with-requires : tie.Need-with-requires Inv-loop μ-loop
-with-requires c κs = node-below (c .before .before)
+with-requires c κs = node-below (c .before .before .before)
 
 sub-rounds : tie.Need-sub-rounds Inv-loop μ-loop
 sub-rounds c = omega arith
@@ -74,7 +74,7 @@ loop-less c = omega arith
 loop-again : tie.Need-loop-again Inv-loop μ-loop
 loop-again c =
     let x = c .before in
-    let e = x .before .before in
+    let e = x .before .before .before in
     let w = e .before .before in
     let l = w .before .before .loop in
     let s = w .before .before .before .before .before .before in

@@ -2,13 +2,14 @@
 -- The measure falls as the lowest rank rises. Assumes nothing.
 use Prim.Native.Nat.{ℕ, _^_, _-_, _<_}
 use native.Mathlib.Omega.{arith}
-use mathlib.Core.Path.{_≡_, refl, sym, _∙_}
-use mathlib.Core.Bool.{true}
+use mathlib.Core.Path.{_≡_, sym, _∙_}
+use mathlib.Core.Bool.{true, not, _||_}
 use lib.Dec.{leb}
 use lib.ListN.{getD}
 use borrow.Author.Tests.{le-leb, lt-leb}
-use Rattle.loops.specs.Loop.{first}
+use Rattle.loops.specs.Loop.{allBelow, first}
 use Rattle.bits.specs.Bit.{bit}
+use Rattle.tree.specs.Arrays.{across}
 use Rattle.tree.specs.WordLaws.{lowest-below, lowest-set, word-part, word-less}
 use Rattle.tree.specs.JudgeLaws.{wordHolds, word-miss, word-turn, word-end, word-across}
 use Rattle.tree.proofs.spare_holds.Statement.{statement}
@@ -16,9 +17,9 @@ use Rattle.tree.proofs.spare_holds.Tie as tie
 
 abbrev Inv-loop : tie.InvT-loop
 Inv-loop ranks end1 end2 cost mask s limit a b left₀ left =
+    (wordHolds (λ k. leb (getD cost (getD ranks k 0) 0) limit) left ≡ allBelow 64 (λ k. not (across mask a b k) || leb (getD cost (getD ranks k 0) 0) limit)) ×
     (left < 2 ^ 64) ×
-    ((k : ℕ) → bit left k ≡ true → getD ranks k 0 < 256) ×
-    (wordHolds (λ k. leb (getD cost (getD ranks k 0) 0) limit) left ≡ wordHolds (λ k. leb (getD cost (getD ranks k 0) 0) limit) left₀)
+    ((k : ℕ) → bit left k ≡ true → getD ranks k 0 < 256)
 
 abbrev μ-loop : tie.MeasureT-loop
 μ-loop ranks end1 end2 cost mask s limit a b left₀ left = 64 - first 64 (bit left)
@@ -27,13 +28,13 @@ abbrev μ-loop : tie.MeasureT-loop
 rank-below : (c : tie.After-lowest Inv-loop μ-loop) → c .lowest .result < 64
 rank-below c =
     let l = c .before .before .loop in
-    lowest-below (l .left) (omega arith) (l .inv .0) (c .lowest .result) (c .lowest .ensures)
+    lowest-below (l .left) (omega arith) (l .inv .1) (c .lowest .result) (c .lowest .ensures)
 
 edge-below :
     (c : tie.After-lowest Inv-loop μ-loop) → getD (c .before .before .before .before .before .before .before .before .args .ranks .now) (c .lowest .result) 0 < 256
 edge-below c =
     let l = c .before .before .loop in
-    l .inv .1 (c .lowest .result) (lowest-set (l .left) (omega arith) (l .inv .0) (c .lowest .result) (c .lowest .ensures))
+    l .inv .2 (c .lowest .result) (lowest-set (l .left) (omega arith) (l .inv .1) (c .lowest .result) (c .lowest .ensures))
 
 cast-s : tie.Need-cast-s Inv-loop μ-loop
 cast-s c = omega arith
@@ -62,7 +63,11 @@ crossing-requires c κs = omega arith
 loop-holds : tie.Need-loop-holds Inv-loop μ-loop
 loop-holds c =
     let s = c .before .before .before .before .before in
-    (omega arith, λ k h. s .pre .edge k (sym (c .crossing .ensures k) ∙ h), refl)
+    let a = s .args in (
+      word-across (a .mask .now) (getD (a .end1 .now) (a .spare .0) 0) (getD (a .end2 .now) (a .spare .0) 0) (c .crossing .result) _ (c .crossing .ensures),
+      omega arith,
+      λ k h. s .pre .edge k (sym (c .crossing .ensures k) ∙ h),
+    )
 
 lowest-requires : tie.Need-lowest-requires Inv-loop μ-loop
 lowest-requires c κs = omega arith
@@ -89,13 +94,10 @@ returns : tie.Need-returns Inv-loop μ-loop
 returns c =
     let e = c .before .before .before in
     let l = e .before .before .loop in
-    let x = e .before .before .before in
-    let s = x .before .before .before .before .before in
-    let a = s .args in
-    let missed = word-miss (l .left) (omega arith) (l .inv .0) (e .lowest .result) (e .lowest .ensures)
+    let a = e .before .before .before .before .before .before .before .before .args in
+    let missed = word-miss (l .left) (omega arith) (l .inv .1) (e .lowest .result) (e .lowest .ensures)
     (λ k. leb (getD (a .cost .now) (getD (a .ranks .now) k 0) 0) (getD (a .cost .now) (a .spare .0) 0)) (lt-leb _ _ (c .if1 .taken)) in
-    sym missed ∙ l .inv .2
-    ∙ word-across (a .mask .now) (getD (a .end1 .now) (a .spare .0) 0) (getD (a .end2 .now) (a .spare .0) 0) (x .crossing .result) _ (x .crossing .ensures)
+    sym missed ∙ l .inv .0
 
 without-lowest-requires : tie.Need-without-lowest-requires Inv-loop μ-loop
 without-lowest-requires c κs = omega arith
@@ -104,25 +106,22 @@ loop-less : tie.Need-loop-less Inv-loop μ-loop
 loop-less c =
     let e = c .before .before .before .before in
     let l = e .before .before .loop in
-    word-less (l .left) (omega arith) (l .inv .0) (e .lowest .result) (e .lowest .ensures) (c .without-lowest .result) (c .without-lowest .ensures)
+    word-less (l .left) (omega arith) (l .inv .1) (e .lowest .result) (e .lowest .ensures) (c .without-lowest .result) (c .without-lowest .ensures)
 
 loop-again : tie.Need-loop-again Inv-loop μ-loop
 loop-again c =
     let e = c .before .before .before .before in
     let l = e .before .before .loop in
     let some : 0 < l .left = omega arith in (
+      word-turn (l .left) some (l .inv .1) (e .lowest .result) (e .lowest .ensures) (c .without-lowest .result) (c .without-lowest .ensures) _ (le-leb _ _ (c .before .if1 .left)) ∙ l .inv .0,
       omega arith,
-      λ k h. l .inv .1 k (word-part (l .left) some (l .inv .0) (e .lowest .result) (e .lowest .ensures) (c .without-lowest .result) (c .without-lowest .ensures) k h),
-      word-turn (l .left) some (l .inv .0) (e .lowest .result) (e .lowest .ensures) (c .without-lowest .result) (c .without-lowest .ensures) _ (le-leb _ _ (c .before .if1 .left)) ∙ l .inv .2,
+      λ k h. l .inv .2 k (word-part (l .left) some (l .inv .1) (e .lowest .result) (e .lowest .ensures) (c .without-lowest .result) (c .without-lowest .ensures) k h),
     )
 
 returns-2 : tie.Need-returns-2 Inv-loop μ-loop
 returns-2 c =
     let l = c .before .loop in
-    let x = c .before .before in
-    let a = x .before .before .before .before .before .args in
-    sym (word-end _ (l .left) (c .loop-test .left)) ∙ l .inv .2
-    ∙ word-across (a .mask .now) (getD (a .end1 .now) (a .spare .0) 0) (getD (a .end2 .now) (a .spare .0) 0) (x .crossing .result) _ (x .crossing .ensures)
+    sym (word-end _ (l .left) (c .loop-test .left)) ∙ l .inv .0
 
 pub spare-holds-spec : {M : Type 1} → statement M
 spare-holds-spec =
