@@ -3,15 +3,15 @@
 -- Definitions only. Assumes nothing.
 use Prim.Native.Nat.{ℕ, _-_, _≤_, _<_}
 use mathlib.Core.Path.{_≡_}
-use mathlib.Core.Bool.{Bool, xor, _&&_}
+use mathlib.Core.Bool.{Bool, _&&_}
 use mathlib.Core.List.{List}
 use lib.Dec.{ltb}
 use lib.ListN.{length, getD}
-use Rattle.bits.specs.Bit.{bit}
+use Rattle.tree.specs.Arrays.{across}
 
--- Edge e covers the tree edge of rank t: just one of its ends' masks has t.
+-- Edge e covers the tree edge of rank t: it lies between the edge's ends.
 abbrev pub covers : List ℕ → List ℕ → List ℕ → ℕ → ℕ → Bool
-covers end₁ end₂ mask e t = xor (bit (getD mask (getD end₁ e 0) 0) t) (bit (getD mask (getD end₂ e 0) 0) t)
+covers end₁ end₂ mask e t = across mask (getD end₁ e 0) (getD end₂ e 0) t
 
 -- The cost of a rank: ranks lead to edges, and edges to costs.
 abbrev pub costAt : List ℕ → List ℕ → ℕ → ℕ

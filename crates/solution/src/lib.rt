@@ -11,6 +11,7 @@ ghost use Rattle.sets.specs.Sets.{inRow};
 ghost use Rattle.optimum.specs.Solve.{place, join, partners, gap};
 ghost use Rattle.solution.specs.Asked.{covers, costAt, undercuts, Ranks, Falling, Rising, Ends, Mated};
 use ids::Edge;
+use ids::Node;
 use ids::SpareRank;
 
 // The set of the tree ranks that an edge covers.
@@ -19,9 +20,9 @@ fn covered(e: Edge, end1: &[u32; 256], end2: &[u32; 256], mask: &[u64; 64]) -> u
     ensures { λ r. ⌜ ((t : ℕ) → bit r t ≡ covers (now (end1 .entry)) (now (end2 .entry)) (now (mask .entry)) (e .0) t) ⌝ }
 {
     let k = e.0 as usize;
-    let a = end1[k] as usize;
-    let b = end2[k] as usize;
-    bits::differ(mask[a], mask[b])
+    let a = end1[k];
+    let b = end2[k];
+    tree::crossing(mask, Node(a), Node(b))
 }
 
 // Puts a spare rank into the rows of a set of tree ranks.
@@ -47,8 +48,9 @@ fn dearer(limit: u32, x: u32, cost: &[u32; 256], ts: &[u32; 256]) -> u32
 {
     let mut p = limit;
     while p > 0 {
-        let e = ts[(p - 1) as usize] as usize;
-        if x < cost[e] {
+        let number = ts[(p - 1) as usize];
+        let e = Edge(number);
+        if x < cost[e.0 as usize] {
             return p;
         }
         p -= 1;
@@ -80,12 +82,12 @@ pub fn fill_rows(
     let mut limit = trees;
     let mut s: usize = 0;
     while s < q {
-        let e = ss[s];
-        limit = dearer(limit, cost[e as usize], cost, ts);
+        let e = Edge(ss[s]);
+        limit = dearer(limit, cost[e.0 as usize], cost, ts);
         if limit == 0 {
             return;
         }
-        let over = covered(Edge(e), end1, end2, mask);
+        let over = covered(e, end1, end2, mask);
         let above = bits::both(over, bits::below(limit));
         let spare = s as u32;
         fill(SpareRank(spare), above, rows);
@@ -103,8 +105,8 @@ pub fn place(ranks: &[u32; 256], count: usize, label: &[u32], costs: &mut [u32; 
 {
     let mut k: usize = 0;
     while k < count {
-        let e = ranks[k] as usize;
-        costs[e] = label[k];
+        let e = Edge(ranks[k]);
+        costs[e.0 as usize] = label[k];
         k += 1;
     }
 }
@@ -120,8 +122,8 @@ fn join(ts: &[u32; 256], spare: Edge, m: u32, mate: &mut [u32; 256])
         return;
     }
     let t = (m - 1) as usize;
-    let e = ts[t] as usize;
-    mate[e] = spare.0 + 1;
+    let e = Edge(ts[t]);
+    mate[e.0 as usize] = spare.0 + 1;
 }
 
 // The mate of each tree edge, from the mate of each spare rank.

@@ -61,13 +61,7 @@ fn put_rank(k: TreeRank, u: Node, adj: &mut [u64; 64])
 }
 
 // Puts the rank of a tree edge into the words of its two ends.
-fn put_edge(
-    k: TreeRank,
-    e: Edge,
-    end1: &[u32; 256],
-    end2: &[u32; 256],
-    adj: &mut [u64; 64],
-)
+fn put_edge(k: TreeRank, e: Edge, end1: &[u32; 256], end2: &[u32; 256], adj: &mut [u64; 64])
     requires { ⌜ Placed (k .0) (e .0) (now end1) (now end2) (now adj) ⌝ }
     ensures { λ r. ⌜ RankPut (k .0) (endOf (now (end1 .entry)) (now (end2 .entry)) (e .0)) (now (adj .entry)) (now (adj .exit)) ⌝ }
 {

@@ -3,6 +3,7 @@
 use Prim.Native.Nat.{ℕ, _-_, _≤_, _<_}
 use native.Mathlib.Decide.{ℕ-discrete}
 use native.Mathlib.Omega.{arith}
+use lib.ListN.{getD}
 use Rattle.solution.specs.Asked.{costAt}
 use Rattle.solution.specs.RowLaws.{limit-is}
 use Rattle.solution.proofs.dearer.Statement.{statement}
@@ -14,33 +15,37 @@ Inv-loop limit x cost ts p₀ p = (p ≤ limit) × ((t : ℕ) → p ≤ t → t 
 abbrev μ-loop : tie.MeasureT-loop
 μ-loop limit x cost ts p₀ p = p
 
+-- the edge of the rank below p
+edge-below : (c : tie.In-loop Inv-loop μ-loop) → getD (c .before .before .args .ts .now) (c .before .loop .p - 1) 0 < 256
+edge-below c = c .before .before .pre .0 .edges (c .before .loop .p - 1) (omega (arith, c .before .loop .inv .0))
+
 loop-holds : tie.Need-loop-holds Inv-loop μ-loop
 loop-holds c = (omega arith, λ t l m. absurd (omega arith))
 
-sub-e : tie.Need-sub-e Inv-loop μ-loop
-sub-e c = omega arith
+sub-number : tie.Need-sub-number Inv-loop μ-loop
+sub-number c = omega arith
 
-cast-e : tie.Need-cast-e Inv-loop μ-loop
-cast-e c = omega (arith, c .before .loop .inv .0, c .before .before .pre .0 .most)
+cast-number : tie.Need-cast-number Inv-loop μ-loop
+cast-number c = omega (arith, c .before .loop .inv .0, c .before .before .pre .0 .most)
 
-mul-e : tie.Need-mul-e Inv-loop μ-loop
-mul-e c = omega (arith, c .before .loop .inv .0, c .before .before .pre .0 .most)
+mul-number : tie.Need-mul-number Inv-loop μ-loop
+mul-number c = omega (arith, c .before .loop .inv .0, c .before .before .pre .0 .most)
 
-element-copy-out-e : tie.Need-element-copy-out-e Inv-loop μ-loop
-element-copy-out-e c = omega (arith, c .before .loop .inv .0, c .before .before .pre .0 .most)
+element-copy-out-number : tie.Need-element-copy-out-number Inv-loop μ-loop
+element-copy-out-number c = omega (arith, c .before .loop .inv .0, c .before .before .pre .0 .most)
 
-cast-e-2 : tie.Need-cast-e-2 Inv-loop μ-loop
-cast-e-2 c = omega (arith, c .before .before .before .pre .0 .edges (c .before .before .loop .p - 1) (omega (arith, c .before .before .loop .inv .0)))
+cast-if1 : tie.Need-cast-if1 Inv-loop μ-loop
+cast-if1 c = omega (arith, edge-below (c .before .before))
 
 mul-if1 : tie.Need-mul-if1 Inv-loop μ-loop
-mul-if1 c = omega (arith, c .before .before .before .pre .0 .edges (c .before .before .loop .p - 1) (omega (arith, c .before .before .loop .inv .0)))
+mul-if1 c = omega (arith, edge-below (c .before .before))
 
 element-copy-out-if1 : tie.Need-element-copy-out-if1 Inv-loop μ-loop
-element-copy-out-if1 c = c .before .before .before .pre .0 .edges (c .before .before .loop .p - 1) (omega (arith, c .before .before .loop .inv .0))
+element-copy-out-if1 c = edge-below (c .before .before)
 
 returns : tie.Need-returns Inv-loop μ-loop
 returns c =
-    let l = c .before .before .before .before in
+    let l = c .before .before .before .before .before in
     let a = l .before .args in (
       l .loop .inv .0,
       limit-is (a .limit) (a .x) (l .loop .p) (a .cost .now) (a .ts .now)
@@ -56,7 +61,7 @@ loop-less c = omega arith
 
 loop-again : tie.Need-loop-again Inv-loop μ-loop
 loop-again c =
-    let l = c .before .before .before .before in
+    let l = c .before .before .before .before .before in
     let a = l .before .args in (
       omega (arith, l .loop .inv .0),
       λ t h m. elim (ℕ-discrete t (l .loop .p - 1)) [
@@ -80,11 +85,11 @@ dearer-spec =
     Inv-loop
     μ-loop
     loop-holds
-    sub-e
-    cast-e
-    mul-e
-    element-copy-out-e
-    cast-e-2
+    sub-number
+    cast-number
+    mul-number
+    element-copy-out-number
+    cast-if1
     mul-if1
     element-copy-out-if1
     returns

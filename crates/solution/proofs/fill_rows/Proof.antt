@@ -4,7 +4,7 @@
 use Prim.Native.Nat.{ℕ, _-_, _≤_, _<_}
 use mathlib.Core.Path.{_≡_, ap, _∙_}
 use native.Mathlib.Omega.{arith}
-use lib.ListN.{length, length-replicate}
+use lib.ListN.{length, getD, length-replicate}
 use Rattle.solution.specs.Asked.{costAt}
 use Rattle.solution.specs.RowLaws.{limit-all, limit-cuts, Filled, rows-start, rows-turn, rows-end}
 use Rattle.solution.proofs.fill_rows.Statement.{statement}
@@ -19,6 +19,10 @@ Inv-loop trees q cost ts ss end1 end2 mask rows₀ limit₀ s₀ rows limit s =
 abbrev μ-loop : tie.MeasureT-loop
 μ-loop trees q cost ts ss end1 end2 mask rows₀ limit₀ s₀ rows limit s = q - s
 
+-- the edge of the spare rank at hand
+edge-below : (c : tie.In-loop Inv-loop μ-loop) → getD (c .before .before .args .ss .now) (c .before .loop .s) 0 < 256
+edge-below c = c .before .before .pre .1 .0 .0 .edges (c .before .loop .s) (c .loop-test .taken)
+
 loop-holds : tie.Need-loop-holds Inv-loop μ-loop
 loop-holds c =
     let a = c .args in
@@ -30,24 +34,24 @@ loop-holds c =
       λ t s _ _. rows-start (a .rows .now) empty _ t s,
     )
 
-mul-e : tie.Need-mul-e Inv-loop μ-loop
-mul-e c = omega (arith, c .before .before .pre .1 .0 .0 .most)
-
-element-copy-out-e : tie.Need-element-copy-out-e Inv-loop μ-loop
-element-copy-out-e c = omega (arith, c .before .before .pre .1 .0 .0 .most)
-
-cast-dearer : tie.Need-cast-dearer Inv-loop μ-loop
-cast-dearer c = omega (arith, c .before .before .before .pre .1 .0 .0 .edges (c .before .before .loop .s) (c .before .loop-test .taken))
-
 mul-dearer : tie.Need-mul-dearer Inv-loop μ-loop
-mul-dearer c = omega (arith, c .before .before .before .pre .1 .0 .0 .edges (c .before .before .loop .s) (c .before .loop-test .taken))
+mul-dearer c = omega (arith, c .before .before .pre .1 .0 .0 .most)
 
 element-copy-out-dearer : tie.Need-element-copy-out-dearer Inv-loop μ-loop
-element-copy-out-dearer c = c .before .before .before .pre .1 .0 .0 .edges (c .before .before .loop .s) (c .before .loop-test .taken)
+element-copy-out-dearer c = omega (arith, c .before .before .pre .1 .0 .0 .most)
+
+cast-dearer : tie.Need-cast-dearer Inv-loop μ-loop
+cast-dearer c = omega (arith, edge-below (c .before .before))
+
+mul-dearer-2 : tie.Need-mul-dearer-2 Inv-loop μ-loop
+mul-dearer-2 c = omega (arith, edge-below (c .before .before))
+
+element-copy-out-dearer-2 : tie.Need-element-copy-out-dearer-2 Inv-loop μ-loop
+element-copy-out-dearer-2 c = edge-below (c .before .before)
 
 dearer-requires : tie.Need-dearer-requires Inv-loop μ-loop
 dearer-requires c κs =
-    let l = c .before .before .before in
+    let l = c .before .before .before .before in
     let p = l .before .pre .0 in
     let few = l .loop .inv .1 in (
       record {
@@ -61,7 +65,7 @@ dearer-requires c κs =
 returns : tie.Need-returns Inv-loop μ-loop
 returns c =
     let d = c .before in
-    let l = d .before .before .before .before in
+    let l = d .before .before .before .before .before in
     let a = l .before .args in (
       rows-end (a .cost .now) (a .ts .now) (a .ss .now) (a .end1 .now) (a .end2 .now) (a .mask .now) (a .trees) (l .loop .rows)
           (l .loop .s) (a .q) (l .loop .inv .0) (l .loop .inv .4)
@@ -73,7 +77,7 @@ returns c =
 
 covered-requires : tie.Need-covered-requires Inv-loop μ-loop
 covered-requires c κs =
-    let l = c .before .before .before .before .before in
+    let l = c .before .before .before .before .before .before in
     let p = l .before .pre .1 in
     let below : l .loop .s < l .before .args .q = omega arith in
     (p .0 .0 .edges (l .loop .s) below, p .1 .0 .first (l .loop .s) below, p .1 .0 .second (l .loop .s) below)
@@ -81,7 +85,7 @@ covered-requires c κs =
 below-requires : tie.Need-below-requires Inv-loop μ-loop
 below-requires c κs =
     let d = c .before .before in
-    let l = d .before .before .before .before in
+    let l = d .before .before .before .before .before in
     omega (arith, d .dearer .ensures .0, l .loop .inv .1, l .before .pre .0 .0)
 
 both-requires : tie.Need-both-requires Inv-loop μ-loop
@@ -91,7 +95,7 @@ cast-spare : tie.Need-cast-spare Inv-loop μ-loop
 cast-spare c = omega arith
 
 fill-requires : tie.Need-fill-requires Inv-loop μ-loop
-fill-requires c κs = (omega arith, c .before .before .before .before .before .before .before .before .before .loop .inv .2)
+fill-requires c κs = (omega arith, c .before .before .before .before .before .before .before .before .before .before .loop .inv .2)
 
 add-s : tie.Need-add-s Inv-loop μ-loop
 add-s c = omega arith
@@ -105,9 +109,9 @@ loop-again c =
     let w = b .before in
     let v = w .before in
     let d = v .before .before in
-    let l = d .before .before .before .before in
+    let l = d .before .before .before .before .before in
     let a = l .before .args in
-    let here : l .loop .s < a .q = omega arith in (
+    let here = d .before .before .before .before .loop-test .taken in (
       omega arith,
       omega (arith, d .dearer .ensures .0, l .loop .inv .1),
       c .fill .ensures .1,
@@ -138,11 +142,11 @@ fill-rows-spec =
     Inv-loop
     μ-loop
     loop-holds
-    mul-e
-    element-copy-out-e
-    cast-dearer
     mul-dearer
     element-copy-out-dearer
+    cast-dearer
+    mul-dearer-2
+    element-copy-out-dearer-2
     dearer-requires
     returns
     covered-requires

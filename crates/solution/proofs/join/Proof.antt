@@ -17,29 +17,30 @@ sub-t c = search needs
 cast-t : tie.Need-cast-t
 cast-t c = search needs
 
-mul-e : tie.Need-mul-e
-mul-e c = search needs
+mul-mate : tie.Need-mul-mate
+mul-mate c = search needs
 
-element-copy-out-e : tie.Need-element-copy-out-e
-element-copy-out-e c = search needs
-
-cast-e : tie.Need-cast-e
-cast-e c = omega (arith, c .before .before .pre .1 .1 (omega arith))
+element-copy-out-mate : tie.Need-element-copy-out-mate
+element-copy-out-mate c = search needs
 
 add-mate : tie.Need-add-mate
 add-mate c = search needs
 
-mul-mate : tie.Need-mul-mate
-mul-mate c = omega (arith, c .before .before .before .pre .1 .1 (omega arith))
+cast-mate : tie.Need-cast-mate
+cast-mate c = omega (arith, c .before .before .before .before .pre .1 .1 (omega arith))
+
+mul-mate-2 : tie.Need-mul-mate-2
+mul-mate-2 c = omega (arith, c .before .before .before .before .pre .1 .1 (omega arith))
 
 element-write-mate : tie.Need-element-write-mate
-element-write-mate c = omega (arith, c .before .before .before .pre .1 .1 (omega arith))
+element-write-mate c = omega (arith, c .before .before .before .before .pre .1 .1 (omega arith))
 
 returns-2 : tie.Need-returns-2
 returns-2 c =
-    let a = c .before .before .before .args in
-    let p = c .before .before .before .pre in (
-      join-some (a .ts .now) (a .spare .0) (a .m) (a .mate .now) (c .before .before .if1 .left) (omega (arith, p .1 .1 (omega arith))),
+    let s = c .before .before .before .before in
+    let a = s .args in
+    let p = s .pre in (
+      join-some (a .ts .now) (a .spare .0) (a .m) (a .mate .now) (c .before .before .before .if1 .left) (omega (arith, p .1 .1 (omega arith))),
       simp length-set (p .0 .1),
     )
 
@@ -50,10 +51,10 @@ join-spec =
     returns
     sub-t
     cast-t
-    mul-e
-    element-copy-out-e
-    cast-e
-    add-mate
     mul-mate
+    element-copy-out-mate
+    add-mate
+    cast-mate
+    mul-mate-2
     element-write-mate
     returns-2)

@@ -1,6 +1,6 @@
 -- `solution::place` meets its contract. The loop's invariant: the model, run on the ranks that are left, gives what it
 -- gives on all of them. The measure is how many are left. Assumes nothing.
-use Prim.Native.Nat.{_-_, _≤_}
+use Prim.Native.Nat.{_-_, _≤_, _<_}
 use mathlib.Core.Path.{_≡_, sym, _∙_}
 use native.Mathlib.Omega.{arith}
 use lib.ListN.{length, getD, take, length-set}
@@ -17,31 +17,35 @@ Inv-loop ranks count label costs₀ k₀ costs k =
 abbrev μ-loop : tie.MeasureT-loop
 μ-loop ranks count label costs₀ k₀ costs k = count - k
 
+-- the edge of the rank at hand
+edge-below : (c : tie.In-loop Inv-loop μ-loop) → getD (c .before .before .args .ranks .now) (c .before .loop .k) 0 < 256
+edge-below c = c .before .before .pre .0 .edges (c .before .loop .k) (c .loop-test .taken)
+
 loop-holds : tie.Need-loop-holds Inv-loop μ-loop
 loop-holds c =
     let a = c .args in
     (omega arith, c .pre .1 .1, place-start (a .ranks .now) (a .label .now) (a .count) _)
 
-mul-e : tie.Need-mul-e Inv-loop μ-loop
-mul-e c = omega arith
-
-element-copy-out-e : tie.Need-element-copy-out-e Inv-loop μ-loop
-element-copy-out-e c = omega arith
-
-cast-e : tie.Need-cast-e Inv-loop μ-loop
-cast-e c = omega (arith, c .before .before .before .pre .0 .edges (c .before .before .loop .k) (omega arith))
-
 mul-costs : tie.Need-mul-costs Inv-loop μ-loop
 mul-costs c = omega arith
+
+element-copy-out-costs : tie.Need-element-copy-out-costs Inv-loop μ-loop
+element-copy-out-costs c = omega arith
+
+mul-costs-2 : tie.Need-mul-costs-2 Inv-loop μ-loop
+mul-costs-2 c = omega arith
 
 shared-slice-read-costs : tie.Need-shared-slice-read-costs Inv-loop μ-loop
 shared-slice-read-costs c = omega arith
 
-mul-costs-2 : tie.Need-mul-costs-2 Inv-loop μ-loop
-mul-costs-2 c = omega (arith, c .before .before .before .before .pre .0 .edges (c .before .before .before .loop .k) (omega arith))
+cast-costs : tie.Need-cast-costs Inv-loop μ-loop
+cast-costs c = omega (arith, edge-below (c .before .before .before))
+
+mul-costs-3 : tie.Need-mul-costs-3 Inv-loop μ-loop
+mul-costs-3 c = omega (arith, edge-below (c .before .before .before))
 
 element-write-costs : tie.Need-element-write-costs Inv-loop μ-loop
-element-write-costs c = omega (arith, c .before .before .before .before .pre .0 .edges (c .before .before .before .loop .k) (omega arith))
+element-write-costs c = omega (arith, edge-below (c .before .before .before))
 
 add-k : tie.Need-add-k Inv-loop μ-loop
 add-k c = omega arith
@@ -51,12 +55,13 @@ loop-less c = omega arith
 
 loop-again : tie.Need-loop-again Inv-loop μ-loop
 loop-again c =
-    let l = c .before .before .before .loop in
-    let a = c .before .before .before .before .args in
-    let r = c .before .before .before .before .pre .0 in (
+    let i = c .before .before .before in
+    let l = i .before .loop in
+    let a = i .before .before .args in
+    let r = i .before .before .pre .0 in (
       omega arith,
       simp length-set (l .inv .1),
-      sym (place-turn (a .ranks .now) (a .label .now) (a .count) r (l .k) (l .costs) (c .before .before .loop-test .taken) (l .inv .1))
+      sym (place-turn (a .ranks .now) (a .label .now) (a .count) r (l .k) (l .costs) (i .loop-test .taken) (l .inv .1))
           ∙ l .inv .2,
     )
 
@@ -74,12 +79,12 @@ place-spec =
     Inv-loop
     μ-loop
     loop-holds
-    mul-e
-    element-copy-out-e
-    cast-e
     mul-costs
-    shared-slice-read-costs
+    element-copy-out-costs
     mul-costs-2
+    shared-slice-read-costs
+    cast-costs
+    mul-costs-3
     element-write-costs
     add-k
     loop-less
