@@ -1,6 +1,6 @@
 -- `tree::adjacency` meets its contract. The loop's invariant: the words hold the ranks that are passed. The measure is how
 -- many are left. Assumes nothing.
-use Prim.Native.Nat.{_-_, _≤_}
+use Prim.Native.Nat.{_-_, _<_, _≤_}
 use native.Mathlib.Omega.{arith}
 use mathlib.Core.Path.{_≡_}
 use Rattle.tree.specs.Arrays.{Adjacency}
@@ -30,7 +30,7 @@ put-edge-requires : tie.Need-put-edge-requires Inv-loop μ-loop
 put-edge-requires c κs =
     let l = c .before .before .before in
     let r = l .before .pre .0 in
-    let passed = c .before .before .loop-test .taken in
+    let passed : l .loop .k < l .before .args .count = omega arith in
     record {
       rank = omega (arith, r .few);
       edge = r .edge (l .loop .k) passed;
