@@ -1,12 +1,13 @@
 // Writes the answer frame of an answer held in arrays, or refuses; lists the pairs of an answer.
 ghost use mathlib.Core.Path.{_≡_};
-ghost use Prim.Native.Nat.{_+_, _≤_};
-ghost use lib.ListN.{length};
+ghost use Prim.Native.Nat.{_+_, _<_, _≤_};
+ghost use lib.ListN.{length, set};
 ghost use Rattle.frame.specs.Job.{bytesOf};
 ghost use Rattle.frame.specs.Answers.{answerFrame};
 ghost use Rattle.frame.specs.Services.{written};
 ghost use Rattle.job.specs.Writing.{Put, outcome};
 ghost use Rattle.answer.specs.Contents.{costsAt, pairNumbers, answerAt, refusedReply, pairsOf, Listed};
+use ids::Edge;
 use job::write::Reply;
 
 // How many bytes the first `edges` costs take.
@@ -67,11 +68,11 @@ fn write_pairs(
     ensures { λ r. ⌜ Put (now (area .entry)) at (bytesOf (pairNumbers count (now («pair_tree» .entry)) (now («pair_spare» .entry)))) r (now (area .exit)) ⌝ }
 {
     let mut next = at;
-    let mut i: usize = 0;
-    while i < count {
-        let spare = leb128::write(area, next, pair_tree[i], 2);
-        next = leb128::write(area, spare, pair_spare[i], 2);
-        i += 1;
+    let mut k: usize = 0;
+    while k < count {
+        let spare = leb128::write(area, next, pair_tree[k], 2);
+        next = leb128::write(area, spare, pair_spare[k], 2);
+        k += 1;
     }
     next
 }
@@ -141,6 +142,22 @@ pub fn write_answer(
     }
 }
 
+// Puts a pair at a place of the list.
+fn put_pair(
+    place: usize,
+    tree: Edge,
+    spare: Edge,
+    pair_tree: &mut [u32; 64],
+    pair_spare: &mut [u32; 64],
+)
+    requires { ⌜ place < 64 ⌝ }
+    ensures trees { λ r. ⌜ now («pair_tree» .exit) ≡ set (now («pair_tree» .entry)) place (tree .0) ⌝ }
+    ensures spares { λ r. ⌜ now («pair_spare» .exit) ≡ set (now («pair_spare» .entry)) place (spare .0) ⌝ }
+{
+    pair_tree[place] = tree.0;
+    pair_spare[place] = spare.0;
+}
+
 // Lists the pairs of `mate`, rising by tree edge: mate[e] is s + 1 for the spare edge s paired with tree edge e, 0 for
 // none. Gives how many there are.
 pub fn list_pairs(
@@ -160,8 +177,9 @@ pub fn list_pairs(
     while e < edges {
         let m = mate[e];
         if 0 < m {
-            pair_tree[count] = e as u32;
-            pair_spare[count] = m - 1;
+            let tree = e as u32;
+            let spare = m - 1;
+            put_pair(count, Edge(tree), Edge(spare), pair_tree, pair_spare);
             count += 1;
         }
         e += 1;

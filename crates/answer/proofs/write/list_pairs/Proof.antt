@@ -33,26 +33,21 @@ mul-m c = omega arith
 element-copy-out-m : tie.Need-element-copy-out-m Inv-loop μ-loop
 element-copy-out-m c = omega arith
 
-cast-pair-tree : tie.Need-cast-pair-tree Inv-loop μ-loop
-cast-pair-tree c = omega arith
+cast-tree : tie.Need-cast-tree Inv-loop μ-loop
+cast-tree c = omega arith
 
-mul-pair-tree : tie.Need-mul-pair-tree Inv-loop μ-loop
-mul-pair-tree c = omega (arith, room (c .before .before .before) (c .before .before .loop-test .taken) (c .if1 .taken))
+sub-spare : tie.Need-sub-spare Inv-loop μ-loop
+sub-spare c = omega arith
 
-element-write-pair-tree : tie.Need-element-write-pair-tree Inv-loop μ-loop
-element-write-pair-tree c = omega (arith, room (c .before .before .before) (c .before .before .loop-test .taken) (c .if1 .taken))
-
-sub-pair-spare : tie.Need-sub-pair-spare Inv-loop μ-loop
-sub-pair-spare c = omega arith
-
-mul-pair-spare : tie.Need-mul-pair-spare Inv-loop μ-loop
-mul-pair-spare c = omega (arith, room (c .before .before .before) (c .before .before .loop-test .taken) (c .if1 .taken))
-
-element-write-pair-spare : tie.Need-element-write-pair-spare Inv-loop μ-loop
-element-write-pair-spare c = omega (arith, room (c .before .before .before) (c .before .before .loop-test .taken) (c .if1 .taken))
+put-pair-requires : tie.Need-put-pair-requires Inv-loop μ-loop
+put-pair-requires c κs =
+    let w = c .before .before in
+    room (w .before .before .before) (omega arith) (w .if1 .taken)
 
 add-count : tie.Need-add-count Inv-loop μ-loop
-add-count c = omega (arith, room (c .before .before .before) (c .before .before .loop-test .taken) (c .if1 .taken))
+add-count c =
+    let w = c .before .before .before in
+    omega (arith, room (w .before .before .before) (omega arith) (w .if1 .taken))
 
 add-e : tie.Need-add-e Inv-loop μ-loop
 add-e c = omega arith
@@ -66,7 +61,8 @@ loop-again c =
     let mate = l .before .args .mate .now in (
       omega arith,
       ⊎-elim
-          (λ w. rw (w .1, w .2, w .3) (listed-one mate _ _ _ _ (l .loop .inv .1) (w .0 .taken) (room l (c .before .before .loop-test .taken) (w .0 .taken))))
+          (λ w. rw (w .4, w .5, w .6, w .3 .ensures .0, w .3 .ensures .1)
+          (listed-one mate _ _ _ _ (l .loop .inv .1) (w .0 .taken) (room l (omega arith) (w .0 .taken))))
           (λ w. rw (w .1, w .2, w .3) (listed-none mate _ _ _ _ (l .loop .inv .1) (w .0 .left)))
           (c .if1 .came),
     )
@@ -86,12 +82,9 @@ list-pairs-spec =
     loop-holds
     mul-m
     element-copy-out-m
-    cast-pair-tree
-    mul-pair-tree
-    element-write-pair-tree
-    sub-pair-spare
-    mul-pair-spare
-    element-write-pair-spare
+    cast-tree
+    sub-spare
+    put-pair-requires
     add-count
     add-e
     loop-less

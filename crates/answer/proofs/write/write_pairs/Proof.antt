@@ -17,27 +17,27 @@ use Rattle.answer.proofs.write.write_pairs.Statement.{statement}
 use Rattle.answer.proofs.write.write_pairs.Tie as tie
 
 abbrev Inv-loop : tie.InvT-loop
-Inv-loop area₀ at count pair-tree pair-spare next₀ i₀ area next i = (i ≤ count) × Put area₀ at (bytesOf (pairNumbers i pair-tree pair-spare)) next area
+Inv-loop area₀ at count pair-tree pair-spare next₀ k₀ area next k = (k ≤ count) × Put area₀ at (bytesOf (pairNumbers k pair-tree pair-spare)) next area
 
 abbrev μ-loop : tie.MeasureT-loop
-μ-loop area₀ at count pair-tree pair-spare next₀ i₀ area next i = count - i
+μ-loop area₀ at count pair-tree pair-spare next₀ k₀ area next k = count - k
 
 -- the pair at hand is within the size of all
 pair-fits :
     (l : tie.At-loop Inv-loop μ-loop) →
     let a = l .before .before .args in
-    l .loop .i < a .count →
-    length (bytesOf (pairNumbers (l .loop .i) (a .pair-tree .now) (a .pair-spare .now))) + length (encode 2 (getD (a .pair-tree .now) (l .loop .i) 0)) + length (encode 2 (getD (a .pair-spare .now) (l .loop .i) 0)) ≤ length (bytesOf (pairNumbers (a .count) (a .pair-tree .now) (a .pair-spare .now)))
+    l .loop .k < a .count →
+    length (bytesOf (pairNumbers (l .loop .k) (a .pair-tree .now) (a .pair-spare .now))) + length (encode 2 (getD (a .pair-tree .now) (l .loop .k) 0)) + length (encode 2 (getD (a .pair-spare .now) (l .loop .k) 0)) ≤ length (bytesOf (pairNumbers (a .count) (a .pair-tree .now) (a .pair-spare .now)))
 pair-fits l h =
     let a = l .before .before .args in
-    omega (arith, pairs-size-more (a .pair-tree .now) (a .pair-spare .now) (l .loop .i), pairs-within (a .pair-tree .now) (a .pair-spare .now) (l .loop .i + 1) (a .count) (omega arith))
+    omega (arith, pairs-size-more (a .pair-tree .now) (a .pair-spare .now) (l .loop .k), pairs-within (a .pair-tree .now) (a .pair-spare .now) (l .loop .k + 1) (a .count) (omega arith))
 
 -- the tree edge is put
 put-tree :
     (w : tie.After-write Inv-loop μ-loop) →
     let l = w .before .before .before .before in
     let a = l .before .before .args in
-    Put (a .area .now) (a .at) (bytesOf (pairNumbers (l .loop .i) (a .pair-tree .now) (a .pair-spare .now)) ++ encode 2 (getD (a .pair-tree .now) (l .loop .i) 0)) (w .write .result) (w .write .last .0)
+    Put (a .area .now) (a .at) (bytesOf (pairNumbers (l .loop .k) (a .pair-tree .now) (a .pair-spare .now)) ++ encode 2 (getD (a .pair-tree .now) (l .loop .k) 0)) (w .write .result) (w .write .last .0)
 put-tree w = put-more _ _ _ _ _ _ _ _ (w .before .before .before .before .loop .inv .1) (w .write .ensures .0) (w .write .ensures .1)
 
 loop-holds : tie.Need-loop-holds Inv-loop μ-loop
@@ -54,7 +54,7 @@ write-requires : tie.Need-write-requires Inv-loop μ-loop
 write-requires c κs =
     let l = c .before .before .before in
     let a = l .before .before .args in
-    put-room _ _ _ _ _ _ (l .loop .inv .1) (omega (arith, l .before .before .pre .1, pair-fits l (c .before .before .loop-test .taken)))
+    put-room _ _ _ _ _ _ (l .loop .inv .1) (omega (arith, l .before .before .pre .1, pair-fits l (omega arith)))
 
 mul-write-2 : tie.Need-mul-write-2 Inv-loop μ-loop
 mul-write-2 c = omega arith
@@ -68,10 +68,10 @@ write-requires-2 c κs =
     let l = w .before .before .before .before in
     let a = l .before .before .args in
     put-room _ _ _ _ _ _ (put-tree w)
-    (simp length-append (omega (arith, l .before .before .pre .1, pair-fits l (w .before .before .before .loop-test .taken))))
+    (simp length-append (omega (arith, l .before .before .pre .1, pair-fits l (omega arith))))
 
-add-i : tie.Need-add-i Inv-loop μ-loop
-add-i c = omega arith
+add-k : tie.Need-add-k Inv-loop μ-loop
+add-k c = omega arith
 
 loop-less : tie.Need-loop-less Inv-loop μ-loop
 loop-less c = omega arith
@@ -83,7 +83,7 @@ loop-again c =
     let l = t .before .before .before .before in
     let a = l .before .before .args in (
       omega arith,
-      subst (λ (bytes : List ℕ). Put (a .area .now) (a .at) bytes (w .write2 .result) (w .write2 .last .0)) (sym (pairs-more (a .pair-tree .now) (a .pair-spare .now) (l .loop .i)))
+      subst (λ (bytes : List ℕ). Put (a .area .now) (a .at) bytes (w .write2 .result) (w .write2 .last .0)) (sym (pairs-more (a .pair-tree .now) (a .pair-spare .now) (l .loop .k)))
           (put-more _ _ _ _ _ _ _ _ (put-tree t) (w .write2 .ensures .0) (w .write2 .ensures .1)),
     )
 
@@ -93,7 +93,7 @@ same-length c = ap length (c .before .loop .inv .1 .area) ∙ simp length-sets
 returns : tie.Need-returns Inv-loop μ-loop
 returns c =
     let l = c .before in
-    let all : l .loop .i ≡ l .before .before .args .count = omega arith in
+    let all : l .loop .k ≡ l .before .before .args .count = omega arith in
     rw all at (l .loop .inv .1)
 
 pub write-pairs-spec : {M : Type 1} → statement M
@@ -109,7 +109,7 @@ write-pairs-spec =
     mul-write-2
     element-copy-out-write-2
     write-requires-2
-    add-i
+    add-k
     loop-less
     loop-again
     same-length
