@@ -2,11 +2,12 @@
 -- Assumes nothing.
 use Prim.Native.Nat.{ℕ, _+_, _-_, _≤_}
 use mathlib.Core.Path.{_≡_, refl, sym, ap, subst, _∙_}
-use mathlib.Core.List.{List, flatMap}
+use mathlib.Core.List.{List, _++_, flatMap}
 use native.Mathlib.Omega.{arith}
-use lib.ListN.{length}
+use lib.ListN.{length, getD}
 use lib.Seq.{length-sets}
 use Rattle.loops.specs.Loop.{gather}
+use Rattle.leb128.specs.Number.{encode}
 use Rattle.frame.specs.Job.{bytesOf}
 use Rattle.job.specs.Writing.{Put}
 use Rattle.job.specs.WritingLaws.{put-more, put-room}
@@ -20,6 +21,14 @@ Inv-loop area₀ at edges costs next₀ e₀ area next e = (e ≤ edges) × Put 
 
 abbrev μ-loop : tie.MeasureT-loop
 μ-loop area₀ at edges costs next₀ e₀ area next e = edges - e
+
+-- the cost at hand is put
+put-cost :
+    (w : tie.After-write-short Inv-loop μ-loop) →
+    let l = w .before .before .before .before in
+    let a = l .before .before .args in
+    Put (a .area .now) (a .at) (bytesOf (costsAt (l .loop .e) (a .costs .now)) ++ encode 2 (getD (a .costs .now) (l .loop .e) 0)) (w .write-short .result) (w .write-short .last .0)
+put-cost w = put-more _ _ _ _ _ _ _ _ (w .before .before .before .before .loop .inv .1) (w .write-short .ensures .0) (w .write-short .ensures .1)
 
 loop-holds : tie.Need-loop-holds Inv-loop μ-loop
 unfolding gather flatMap
@@ -51,7 +60,7 @@ loop-again c =
     let a = l .before .before .args in (
       omega arith,
       subst (λ (bytes : List ℕ). Put (a .area .now) (a .at) bytes (w .write-short .result) (w .write-short .last .0)) (sym (costs-more (a .costs .now) (l .loop .e)))
-          (put-more _ _ _ _ _ _ _ _ (l .loop .inv .1) (w .write-short .ensures .0) (w .write-short .ensures .1)),
+          (put-cost w),
     )
 
 same-length : tie.Need-same-length Inv-loop μ-loop
