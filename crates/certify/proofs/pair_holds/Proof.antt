@@ -68,7 +68,8 @@ covers-requires : tie.Need-covers-requires
 covers-requires c κs =
     let e₄ = c .before .before .before in
     let s = e₄ .before .before .before .before .before .before .before .before in
-    (s .pre .judged .first (s .args .s .0) (e₄ .before .before .if3 .left), s .pre .judged .second (s .args .s .0) (e₄ .before .before .if3 .left), omega (arith, c .before .before .rank-of .ensures .1))
+    let link = e₄ .before .before .if3 .left in
+    omega (arith, s .pre .judged .first (s .args .s .0) link, s .pre .judged .second (s .args .s .0) link, c .before .before .rank-of .ensures .1)
 
 returns-5 : tie.Need-returns-5
 returns-5 c =
