@@ -43,12 +43,24 @@ write-more t c =
     let a = c .before .before .before .args in
     encode-more (a .most) (a .x) (c .before .if1 .left) (c .if2 .left)
 
+-- what is promised at each return
 write-returns :
     (t : ℕ) → write-lts.Need-returns (write-below t, write.Post) (write-at t) write.Post
 write-returns t c =
     let a = c .before .before .args in
     rw (encode-none (a .most) (a .x) (c .if1 .taken)) (omega arith, refl)
 
+write-returns-2 :
+    (t : ℕ) → write-lts.Need-returns-2 (write-below t, write.Post) (write-at t) write.Post
+write-returns-2 t c = rw (write-last t c) (refl, refl)
+
+write-returns-3 :
+    (t : ℕ) → write-lts.Need-returns-3 (write-below t, write.Post) (write-at t) write.Post
+write-returns-3 t c =
+    rw (write-more t (c .before .before .before .before))
+    (omega arith, rw add-one at (c .before .before .write .ensures .1))
+
+-- on the way: sums and casts fit, places are within the area, and its length stays
 write-cast-area :
     (t : ℕ) → write-lts.Need-cast-area (write-below t, write.Post) (write-at t) write.Post
 write-cast-area t c = omega arith
@@ -64,10 +76,6 @@ write-add-result t c = omega (arith, ap length (write-last t c))
 write-same-length :
     (t : ℕ) → write-lts.Need-same-length (write-below t, write.Post) (write-at t) write.Post
 write-same-length t c = simp length-set
-
-write-returns-2 :
-    (t : ℕ) → write-lts.Need-returns-2 (write-below t, write.Post) (write-at t) write.Post
-write-returns-2 t c = rw (write-last t c) (refl, refl)
 
 write-add-area :
     (t : ℕ) → write-lts.Need-add-area (write-below t, write.Post) (write-at t) write.Post
@@ -97,12 +105,6 @@ write-write-requires t c κs = simp length-set (omega (arith, ap length (write-m
 write-same-length-2 :
     (t : ℕ) → write-lts.Need-same-length-2 (write-below t, write.Post) (write-at t) write.Post
 write-same-length-2 t c = c .before .before .write .kept .0 ∙ simp length-set
-
-write-returns-3 :
-    (t : ℕ) → write-lts.Need-returns-3 (write-below t, write.Post) (write-at t) write.Post
-write-returns-3 t c =
-    rw (write-more t (c .before .before .before .before))
-    (omega arith, rw add-one at (c .before .before .write .ensures .1))
 
 pub +write-spec : {M : Type 1} → statement M
 +write-spec =
