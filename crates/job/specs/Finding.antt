@@ -90,10 +90,13 @@ module _ (s : List ℕ) (h : Header) (z : h .refusal ≡ 0) (f : Found s h) wher
     pub ends-order : first ≤ end
     ends-order = omega (arith, at-end)
 
-    pub ends-within : end ≤ length s
+    ends-within : end ≤ length s
     ends-within =
         let i : ℕ = 4 * e + 2 in
         omega (arith, at-first, at-end, length-append (bytesOf (take i (f .ns))) (bytesOf (drop i (f .ns))), ap length (parts-join s (f .ns) i (f .divides)), length-append (bytesOf (take 4 (drop i (f .ns)))) (bytesOf (drop 4 (drop i (f .ns)))), ap length (parts-join (drop (length (bytesOf (take i (f .ns)))) s) (drop i (f .ns)) 4 (drop-divides s (f .ns) i (f .divides))), length-drop (length (bytesOf (take i (f .ns)))) s)
+
+    pub part-within : first + (end - first) ≤ length s
+    part-within = omega (arith, ends-order, ends-within)
 
     pub find-place : record { offset = first; size = end - first } ≡ linkPlace (h .refusal) s e
     find-place =

@@ -351,10 +351,12 @@ pub fn read_job(
     let nodes = counts.nodes;
     let edges = counts.edges as usize;
     read_links(part, edges, end1, end2, cost, mark);
-    if !ends_hold(nodes, edges, end1, end2) {
+    let apart = ends_hold(nodes, edges, end1, end2);
+    let marked = marks_hold(edges, mark);
+    if !apart {
         return refused(4);
     }
-    if !marks_hold(edges, mark) {
+    if !marked {
         return refused(5);
     }
     Header {

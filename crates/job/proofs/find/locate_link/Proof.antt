@@ -2,7 +2,7 @@
 -- the one behind its four. Assumes nothing.
 use native.Mathlib.Omega.{arith}
 use mathlib.Core.Path.{sym}
-use Rattle.job.specs.Finding.{Found, found, find-refused, find-none, ends-order, ends-within, find-place}
+use Rattle.job.specs.Finding.{Found, found, find-refused, find-none, ends-order, part-within, find-place}
 use borrow.Author.Needs.{needs}
 use Rattle.job.proofs.find.locate_link.Statement.{statement}
 use Rattle.job.proofs.find.locate_link.Tie as tie
@@ -24,6 +24,14 @@ returns-2 c =
     let a = k .before .before .args in
     (sym (find-none (a .frame .now) (a .header) (k .if1 .left) (accepted k) (a .edge .0) (c .if2 .taken)), omega arith)
 
+returns-3 : tie.Need-returns-3
+returns-3 w =
+    let k = w .before .before .before in
+    let a = k .before .before .args in (
+      find-place (a .frame .now) (a .header) (k .if1 .left) (accepted k) (a .edge .0) (w .before .skip .result) (w .skip2 .result) (w .before .before .if2 .left) (w .before .skip .ensures) (w .skip2 .ensures),
+      part-within (a .frame .now) (a .header) (k .if1 .left) (accepted k) (a .edge .0) (w .before .skip .result) (w .skip2 .result) (w .before .before .if2 .left) (w .before .skip .ensures) (w .skip2 .ensures),
+    )
+
 cast-skip : tie.Need-cast-skip
 cast-skip c = search needs
 
@@ -44,15 +52,6 @@ sub-t10 w =
     let k = w .before .before .before in
     let a = k .before .before .args in
     ends-order (a .frame .now) (a .header) (k .if1 .left) (accepted k) (a .edge .0) (w .before .skip .result) (w .skip2 .result) (w .before .before .if2 .left) (w .before .skip .ensures) (w .skip2 .ensures)
-
-returns-3 : tie.Need-returns-3
-returns-3 w =
-    let k = w .before .before .before in
-    let a = k .before .before .args in
-    let here = ends-within (a .frame .now) (a .header) (k .if1 .left) (accepted k) (a .edge .0) (w .before .skip .result) (w .skip2 .result) (w .before .before .if2 .left) (w .before .skip .ensures) (w .skip2 .ensures) in (
-      find-place (a .frame .now) (a .header) (k .if1 .left) (accepted k) (a .edge .0) (w .before .skip .result) (w .skip2 .result) (w .before .before .if2 .left) (w .before .skip .ensures) (w .skip2 .ensures),
-      omega (arith, here, sub-t10 w),
-    )
 
 pub locate-link-spec : {M : Type 1} → statement M
 locate-link-spec =

@@ -20,6 +20,12 @@ loop-holds : tie.Need-loop-holds Inv-loop μ-loop
 unfolding allBelow
 loop-holds c = (omega arith, refl)
 
+loop-again : tie.Need-loop-again Inv-loop μ-loop
+loop-again c =
+    let l = c .before .before .before in
+    let a = l .before .args in
+    (omega arith, all-join (l .loop .e) 8 (apartAt (a .nodes) (a .end1 .now) (a .end2 .now)) (l .loop .inv .1) (sym (c .before .block-apart .ensures) ∙ not-false _ (c .if1 .left)))
+
 sub-loop : tie.Need-sub-loop Inv-loop μ-loop
 sub-loop c = omega arith
 
@@ -31,12 +37,6 @@ add-e c = omega arith
 
 loop-less : tie.Need-loop-less Inv-loop μ-loop
 loop-less c = omega arith
-
-loop-again : tie.Need-loop-again Inv-loop μ-loop
-loop-again c =
-    let l = c .before .before .before in
-    let a = l .before .args in
-    (omega arith, all-join (l .loop .e) 8 (apartAt (a .nodes) (a .end1 .now) (a .end2 .now)) (l .loop .inv .1) (sym (c .before .block-apart .ensures) ∙ not-false _ (c .if1 .left)))
 
 returns : tie.Need-returns Inv-loop μ-loop
 returns c = c .before .loop .inv

@@ -60,10 +60,10 @@ ends-answer k =
 -- question 5
 marks-answer :
     (k : tie.After-marks-hold) →
-    let r = k .before .before .before .before .before .before in
+    let r = k .before .before .before .before .before in
     k .marks-hold .result ≡ question5 (jobOf (r .before .before .before .before .before .before .before .before .before .before .args .frame .now))
 marks-answer k =
-    let r = k .before .before .before .before .before .before in
+    let r = k .before .before .before .before .before in
     let e = r .before .before .before .before .before .before .before in
     let a = e .before .before .before .args in
     let c = e .before .read-counts .result in
@@ -106,38 +106,38 @@ read-links-requires c κs =
 ends-hold-requires : tie.Need-ends-hold-requires
 ends-hold-requires c κs = passing (c .before .before .before .before .before .before .before .before .before) .limit
 
+marks-hold-requires : tie.Need-marks-hold-requires
+marks-hold-requires c κs = passing (c .before .before .before .before .before .before .before .before .before .before .before) .limit
+
 refused-requires-2 : tie.Need-refused-requires-2
 refused-requires-2 c κs = search needs
 
 returns-2 : tie.Need-returns-2
 returns-2 c =
-    let k = c .before .before in
+    let k = c .before .before .before .before in
     let e = k .before .before .before .before .before .before .before .before .before .before in
     let no : k .ends-hold .result ≡ false = not-true _ (c .before .if2 .taken) in
     (c .refused2 .ensures ∙ ends-refused (e .before .before .before .args .frame .now) (e .before .read-counts .result) (passing e) (sym (ends-answer k) ∙ no), λ z. absurd (refused-nonzero 3 (c .refused2 .result) (c .refused2 .ensures) z))
-
-marks-hold-requires : tie.Need-marks-hold-requires
-marks-hold-requires c κs = passing (c .before .before .before .before .before .before .before .before .before .before .before .before) .limit
 
 refused-requires-3 : tie.Need-refused-requires-3
 refused-requires-3 c κs = search needs
 
 returns-3 : tie.Need-returns-3
 returns-3 c =
-    let m = c .before .before in
-    let k = m .before .before .before in
+    let m = c .before .before .before in
+    let k = m .before .before in
     let e = k .before .before .before .before .before .before .before .before .before .before in
-    let yes : k .ends-hold .result ≡ true = not-false _ (m .before .before .if2 .left) in
+    let yes : k .ends-hold .result ≡ true = not-false _ (c .before .before .if2 .left) in
     let no : m .marks-hold .result ≡ false = not-true _ (c .before .if3 .taken) in
     (c .refused3 .ensures ∙ marks-refused (e .before .before .before .args .frame .now) (e .before .read-counts .result) (passing e) (sym (ends-answer k) ∙ yes) (sym (marks-answer m) ∙ no), λ z. absurd (refused-nonzero 4 (c .refused3 .result) (c .refused3 .ensures) z))
 
 returns-4 : tie.Need-returns-4
 returns-4 c =
-    let m = c .before in
-    let k = m .before .before .before in
+    let m = c .before .before in
+    let k = m .before .before in
     let r = k .before .before .before in
     let e = r .before .before .before .before .before .before .before in
-    let yes₄ : k .ends-hold .result ≡ true = not-false _ (m .before .before .if2 .left) in
+    let yes₄ : k .ends-hold .result ≡ true = not-false _ (c .before .if2 .left) in
     let yes₅ : m .marks-hold .result ≡ true = not-false _ (c .if3 .left) in
     (form-passed (e .before .before .before .args .frame .now) (e .before .read-counts .result) (passing e) (sym (ends-answer k) ∙ yes₄) (sym (marks-answer m) ∙ yes₅), λ z. loaded r)
 
@@ -154,9 +154,9 @@ read-job-spec =
     cast-edges
     read-links-requires
     ends-hold-requires
+    marks-hold-requires
     refused-requires-2
     returns-2
-    marks-hold-requires
     refused-requires-3
     returns-3
     returns-4)
