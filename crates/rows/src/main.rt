@@ -1,6 +1,7 @@
 // Runs the remaining rows: refusals, areas that are just too short, the example of 13 steps, answers made elsewhere, the
-// finders and the reader. The rows T1 to T9 are proved (specs/Rows.antt).
+// finders, the reader, and the longest job with the longest answer. The rows T1 to T9 are proved (specs/Rows.antt).
 use ids::Edge;
+use leb128::Number;
 use records::Link;
 use service::judge::Verdict;
 
@@ -16,14 +17,22 @@ fn print_bytes(bytes: &[u8]) {
     io::write_all(1, b"\n");
 }
 
+fn print_number(name: &[u8], number: u32) {
+    io::write_all(1, name);
+    io::print_decimal(1, number as u64);
+}
+
+fn print_reply(name: &[u8], refusal: u32, length: usize) {
+    io::write_all(1, name);
+    print_number(b": refusal ", refusal);
+    io::write_all(1, b", length ");
+    io::print_decimal(1, length as u64);
+}
+
 // Answers a frame into an area of bytes AA, and shows the number and the whole area.
 fn show_answer(name: &[u8], frame: &[u8], area: &mut [u8]) {
     let reply = service::reply::answer(frame, area);
-    io::write_all(1, name);
-    io::write_all(1, b": refusal ");
-    io::print_decimal(1, reply.refusal as u64);
-    io::write_all(1, b", length ");
-    io::print_decimal(1, reply.length as u64);
+    print_reply(name, reply.refusal, reply.length);
     io::write_all(1, b", area");
     print_bytes(area);
 }
@@ -57,11 +66,6 @@ fn show_part(name: &[u8], part: &[u8]) {
     print_bytes(part);
 }
 
-fn print_number(name: &[u8], number: u32) {
-    io::write_all(1, name);
-    io::print_decimal(1, number as u64);
-}
-
 // A link's four numbers, if it is there.
 fn print_link(there: bool, link: Link) {
     if there {
@@ -91,6 +95,101 @@ fn show_read(name: &[u8], frame: &[u8]) {
     print_number(b", links ", job.count);
     let links = job.links;
     print_links(job.count as usize, links);
+}
+
+// A link of the longest job with the longest answer: the tree, a path, stands last; before it a cheap spare along each of its
+// links; before those dear spares. Every cost takes two bytes, and so does the number of every link that is paired.
+fn long_link(e: u32) -> Link {
+    if e < 130 {
+        return Link {
+            end1: 0,
+            end2: 1,
+            cost: 16383,
+            mark: 0,
+        };
+    }
+    if e < 193 {
+        return Link {
+            end1: e - 130,
+            end2: e - 129,
+            cost: 128,
+            mark: 0,
+        };
+    }
+    Link {
+        end1: e - 193,
+        end2: e - 192,
+        cost: 16383,
+        mark: 1,
+    }
+}
+
+fn long_links() -> [Link; 256] {
+    let mut links = [Link {
+        end1: 0,
+        end2: 0,
+        cost: 0,
+        mark: 0,
+    }; 256];
+    let mut e: usize = 0;
+    while e < 256 {
+        links[e] = long_link(e as u32);
+        e += 1;
+    }
+    links
+}
+
+// Writes the longest job into an area, and shows the number and the length.
+fn write_long(name: &[u8], area: &mut [u8]) {
+    let reply = service::list::write_links(64, 256, true, long_links(), area);
+    print_reply(name, reply.refusal, reply.length);
+    io::write_all(1, b"\n");
+}
+
+// Answers it.
+fn answer_long(name: &[u8], frame: &[u8], area: &mut [u8]) {
+    let reply = service::reply::answer(frame, area);
+    print_reply(name, reply.refusal, reply.length);
+    io::write_all(1, b"\n");
+}
+
+// The total that an answer names.
+fn show_total(name: &[u8], answer: &[u8]) {
+    let steps = leb128::read(answer, 0, 3);
+    match steps {
+        Number::Value(total, _) => {
+            print_number(name, total);
+        }
+        Number::Refused => {
+            io::write_all(1, b"no total");
+        }
+    }
+    io::write_all(1, b"\n");
+}
+
+// The longest job and its answer, each in an area that is a byte too short and in one that just suffices.
+fn longest() {
+    let mut short_frame = [170u8; 1282];
+    write_long(b"64 stations, 256 links, 1282 bytes", &mut short_frame);
+    let mut frame = [170u8; 1283];
+    write_long(b"64 stations, 256 links, 1283 bytes", &mut frame);
+    let mut short_area = [170u8; 767];
+    answer_long(b"their answer, 767 bytes", &frame, &mut short_area);
+    let mut area = [170u8; 768];
+    answer_long(b"their answer, 768 bytes", &frame, &mut area);
+    show_total(b"their total ", &area);
+    show_verdict(
+        b"their answer",
+        service::verdict::judge_answer(&frame, &area),
+    );
+    show_part(
+        b"their link 255",
+        service::find::find_link(&frame, Edge(255)),
+    );
+    show_part(
+        b"its cost",
+        service::find::find_cost(&frame, &area, Edge(255)),
+    );
 }
 
 fn refusals() {
@@ -155,4 +254,5 @@ fn main() {
     parts(t1, other);
     show_read(b"T1 read", t1);
     show_read(b"T1's start read", b"\x03\x03");
+    longest();
 }
