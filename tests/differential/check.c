@@ -104,10 +104,13 @@ static void check_find_link(uint32_t link)
 
 static void check_find_cost(uint32_t link, const struct numbers *answer, bool yes)
 {
-    size_t offset = SIZE_MAX, length = SIZE_MAX, first = 1 + (size_t)link;
+    size_t offset = SIZE_MAX, length = SIZE_MAX, first = 1 + (size_t)link, end = has_link(link) && yes ? first + 1 : first;
 
     ist_find_cost(lent.job, lent.job_length, lent.answer, lent.answer_length, link, &offset, &length);
-    expect_part("ist_find_cost", link, offset, length, answer, first, has_link(link) && yes ? first + 1 : first);
+    expect_part("ist_find_cost", link, offset, length, answer, first, end);
+    offset = length = SIZE_MAX;
+    if (find_list_cost(link, &offset, &length))
+        expect_part("ist_find_cost_list", link, offset, length, answer, first, end);
 }
 
 /* Asks both finders for every link, or for some of many, and for numbers that are no link's. */

@@ -3,8 +3,6 @@
 #include "lend.h"
 #include "lists.h"
 
-#ifdef LISTS
-
 static int32_t call_answer_list(uint8_t *area, size_t area_length, size_t *written)
 {
     counts.list_calls++;
@@ -61,6 +59,15 @@ void check_list_offer(int32_t wanted)
     counts.list_calls++;
 }
 
+bool find_list_cost(uint32_t link, size_t *offset, size_t *length)
+{
+    if (lent.links == NULL)
+        return false;
+    ist_find_cost_list(lent.stations, lent.links, lent.links_count, lent.answer, lent.answer_length, link, offset, length);
+    counts.list_calls++;
+    return true;
+}
+
 void check_list_writers(int refusal, const uint8_t *answer, size_t length)
 {
     if (lent.links == NULL)
@@ -70,5 +77,3 @@ void check_list_writers(int refusal, const uint8_t *answer, size_t length)
     counts.lists++;
     counts.lists_refused[refusal]++;
 }
-
-#endif

@@ -175,7 +175,21 @@ static void check_odd_places(void)
         }
 }
 
-/* Right but for the length, and with a number too large in the last record. */
+/* A list with a number too large in each place of one record. */
+static void check_large_number(struct edge *edge, size_t count, size_t record)
+{
+    uint32_t *number[] = {&edge[record].end1, &edge[record].end2, &edge[record].cost, &edge[record].mark};
+
+    for (size_t i = 0; i < COUNT_OF(number); i++) {
+        uint32_t kept = *number[i];
+        *number[i] = COST_MOST + 1;
+        check_list(2, edge, count);
+        expect_answer(1, frame, 0);
+        *number[i] = kept;
+    }
+}
+
+/* Right but for the length; and with a number too large in the first record, in record 257, in the last. */
 static void check_list_lengths(void)
 {
     static struct edge edge[LINKS_ROOM];
@@ -183,11 +197,13 @@ static void check_list_lengths(void)
 
     fill_parallel(edge, LINKS_ROOM);
     for (size_t i = 0; i < COUNT_OF(tried); i++) {
-        struct edge *last = &edge[tried[i] - 1], kept = *last;
+        check_large_number(edge, tried[i], 0);
+        check_large_number(edge, tried[i], tried[i] - 1);
+        if (tried[i] > EDGES_MOST)
+            check_large_number(edge, tried[i], EDGES_MOST);
         check_list(2, edge, tried[i]);
-        last->cost = COST_MOST + 1;
-        check_list(2, edge, tried[i]);
-        *last = kept;
+        if (tried[i] > EDGES_MOST)
+            expect_answer(tried[i] > COST_MOST ? 1 : 2, frame, 0);
     }
 }
 
@@ -336,10 +352,7 @@ static void print_counts(void)
     printf("longest answer %zu bytes; %zu searched whole\n", counts.answer_longest, counts.searched);
     printf("%zu areas, %zu parts found, %zu answers judged yes, %zu judged no or refused\n", areas_tried, counts.finds,
            counts.offers_yes, counts.offers_no);
-    if (counts.lists == 0)
-        printf("no list functions in the library\n");
-    else
-        print_list_counts();
+    print_list_counts();
 }
 
 int main(int argc, char **argv)
