@@ -79,16 +79,16 @@ pub fn judge_answer_held(
     ensures judged { λ r. ⌜ ((s : List ℕ) → Asked s header (now (end1 .entry)) (now (end2 .entry)) (now (cost .entry)) (now (mark .entry)) (now (ts .entry)) (now (mask .entry)) → AnswerJudged s (now (offered .entry)) r) ⌝ }
     ensures refused { λ r. ⌜ (header .refusal ≢ 0 → r ≡ Refused (header .refusal)) ⌝ }
 {
-    let refusal = header.refusal;
-    if refusal != 0 {
-        return Verdict::Refused(refusal);
+    let first = header.refusal;
+    if first != 0 {
+        return Verdict::Refused(first);
     }
     let edges = header.edges as usize;
     let count = header.nodes as usize - 1;
-    if certify::judge_answer(offered, edges, ts, count, end1, end2, cost, mark, mask) {
-        return Verdict::Yes;
+    if !certify::judge_answer(offered, edges, ts, count, end1, end2, cost, mark, mask) {
+        return Verdict::No;
     }
-    Verdict::No
+    Verdict::Yes
 }
 
 // Does the second frame hold an answer to the job of the first?

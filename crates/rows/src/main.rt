@@ -1,9 +1,9 @@
 // Runs the remaining rows: refusals, areas that are just too short, the example of 13 steps, answers made elsewhere, the
-// finders, the reader, and the longest job with the longest answer. The rows T1 to T9 are proved (specs/Rows.antt).
+// finders, the readers, and the longest job with the longest answer. The rows T1 to T9 are proved (specs/Rows.antt).
 use ids::Edge;
+use judging::Verdict;
 use leb128::Number;
 use records::Link;
-use service::judge::Verdict;
 
 fn print_byte(byte: u8) {
     io::write_all(1, b" ");
@@ -31,7 +31,7 @@ fn print_reply(name: &[u8], refusal: u32, length: usize) {
 
 // Answers a frame into an area of bytes AA, and shows the number and the whole area.
 fn show_answer(name: &[u8], frame: &[u8], area: &mut [u8]) {
-    let reply = service::reply::answer(frame, area);
+    let reply = answering::answer(frame, area);
     print_reply(name, reply.refusal, reply.length);
     io::write_all(1, b", area");
     print_bytes(area);
@@ -88,13 +88,33 @@ fn print_links(count: usize, links: [Link; 256]) {
 
 // Reads a frame into records, and shows them.
 fn show_read(name: &[u8], frame: &[u8]) {
-    let job = service::read::read_job(frame);
+    let job = reading::read_job(frame);
     io::write_all(1, name);
     print_number(b": refusal ", job.refusal);
     print_number(b", stations ", job.nodes);
     print_number(b", links ", job.count);
     let links = job.links;
     print_links(job.count as usize, links);
+}
+
+fn print_pair(tree: u32, spare: u32) {
+    print_number(b", pair ", tree);
+    print_number(b" ", spare);
+}
+
+// Reads an answer frame into arrays, and shows what of it stands in the first places.
+fn show_contents(name: &[u8], frame: &[u8], offered: &[u8]) {
+    let answer = reading::read_answer(frame, offered);
+    show_verdict(name, answer.verdict);
+    print_number(b"  steps ", answer.steps);
+    print_number(b", costs ", answer.costs[0]);
+    print_number(b" ", answer.costs[2]);
+    print_number(b" ", answer.costs[3]);
+    io::write_all(1, b", pairs ");
+    io::print_decimal(1, answer.count as u64);
+    print_pair(answer.trees[0], answer.spares[0]);
+    print_pair(answer.trees[1], answer.spares[1]);
+    io::write_all(1, b"\n");
 }
 
 // A link of the longest job with the longest answer: the tree, a path, stands last; before it a cheap spare along each of its
@@ -141,14 +161,14 @@ fn long_links() -> [Link; 256] {
 
 // Writes the longest job into an area, and shows the number and the length.
 fn write_long(name: &[u8], area: &mut [u8]) {
-    let reply = service::list::write_links(64, 256, true, long_links(), area);
+    let reply = lists::write_links(64, 256, true, long_links(), area);
     print_reply(name, reply.refusal, reply.length);
     io::write_all(1, b"\n");
 }
 
 // Answers it.
 fn answer_long(name: &[u8], frame: &[u8], area: &mut [u8]) {
-    let reply = service::reply::answer(frame, area);
+    let reply = answering::answer(frame, area);
     print_reply(name, reply.refusal, reply.length);
     io::write_all(1, b"\n");
 }
@@ -178,18 +198,9 @@ fn longest() {
     let mut area = [170u8; 768];
     answer_long(b"their answer, 768 bytes", &frame, &mut area);
     show_total(b"their total ", &area);
-    show_verdict(
-        b"their answer",
-        service::verdict::judge_answer(&frame, &area),
-    );
-    show_part(
-        b"their link 255",
-        service::find::find_link(&frame, Edge(255)),
-    );
-    show_part(
-        b"its cost",
-        service::find::find_cost(&frame, &area, Edge(255)),
-    );
+    show_verdict(b"their answer", judging::judge_answer(&frame, &area));
+    show_part(b"their link 255", finding::find_link(&frame, Edge(255)));
+    show_part(b"its cost", finding::find_cost(&frame, &area, Edge(255)));
 }
 
 fn refusals() {
@@ -216,33 +227,24 @@ fn answers(t1: &[u8]) {
 
 fn verdicts(t1: &[u8], other: &[u8]) {
     let low = b"\x04\x03\x03\x03\x01\x00\x02";
-    show_verdict(b"T1's tree", service::judge::judge(t1));
-    show_verdict(b"T1's tree, frame cut", service::judge::judge(b"\x03\x03"));
+    show_verdict(b"T1's tree", judging::judge(t1));
+    show_verdict(b"T1's tree, frame cut", judging::judge(b"\x03\x03"));
     show_verdict(
         b"T1, costs 5 4 5 in 3 steps",
-        service::verdict::judge_answer(t1, other),
+        judging::judge_answer(t1, other),
     );
     show_verdict(
         b"T1, costs 3 3 3 in 4 steps",
-        service::verdict::judge_answer(t1, low),
+        judging::judge_answer(t1, low),
     );
 }
 
 fn parts(t1: &[u8], other: &[u8]) {
-    show_part(b"T1's link 1", service::find::find_link(t1, Edge(1)));
-    show_part(b"T1's link 3", service::find::find_link(t1, Edge(3)));
-    show_part(
-        b"cost of link 0",
-        service::find::find_cost(t1, other, Edge(0)),
-    );
-    show_part(
-        b"cost of link 3",
-        service::find::find_cost(t1, other, Edge(3)),
-    );
-    show_part(
-        b"cost in no answer",
-        service::find::find_cost(t1, t1, Edge(0)),
-    );
+    show_part(b"T1's link 1", finding::find_link(t1, Edge(1)));
+    show_part(b"T1's link 3", finding::find_link(t1, Edge(3)));
+    show_part(b"cost of link 0", finding::find_cost(t1, other, Edge(0)));
+    show_part(b"cost of link 3", finding::find_cost(t1, other, Edge(3)));
+    show_part(b"cost in no answer", finding::find_cost(t1, t1, Edge(0)));
 }
 
 fn main() {
@@ -254,5 +256,11 @@ fn main() {
     parts(t1, other);
     show_read(b"T1 read", t1);
     show_read(b"T1's start read", b"\x03\x03");
+    show_contents(b"costs 5 4 5 read", t1, other);
+    show_contents(b"T1 read as an answer", t1, t1);
+    show_verdict(
+        b"a list of no link, records behind it",
+        lists::judge_links(64, 0, true, long_links()),
+    );
     longest();
 }

@@ -3,6 +3,7 @@
 use native.Mathlib.Omega.{arith}
 use mathlib.Core.Path.{refl, sym, _∙_}
 use mathlib.Core.Bool.{true, false}
+use borrow.Author.Tests.{not-true, not-false}
 use Rattle.leb128.specs.Number.{Bytes}
 use Rattle.frame.specs.Questions.{jobOf, refusal}
 use Rattle.frame.specs.Answers.{judgeAnswer}
@@ -45,7 +46,7 @@ returns-2 : tie.Need-returns-2
 returns-2 c =
     let e = c .before .before .before .before in
     let z = e .if1 .left in (
-      λ s k. answer-judged-of s (k .bytes) _ (bytes (e .before)) _ (verdict-word (refusal s) (judgeAnswer (jobOf s) _) true (asked-number k ∙ z) (sym (c .if2 .taken) ∙ answer-word k z _ _ (c .before .judge-answer .ensures))),
+      λ s k. answer-judged-of s (k .bytes) _ (bytes (e .before)) _ (verdict-word (refusal s) (judgeAnswer (jobOf s) _) false (asked-number k ∙ z) (sym (not-true _ (c .if2 .taken)) ∙ answer-word k z _ _ (c .before .judge-answer .ensures))),
       λ n. absurd (n z),
     )
 
@@ -53,7 +54,7 @@ returns-3 : tie.Need-returns-3
 returns-3 c =
     let e = c .before .before .before .before in
     let z = e .if1 .left in (
-      λ s k. answer-judged-of s (k .bytes) _ (bytes (e .before)) _ (verdict-word (refusal s) (judgeAnswer (jobOf s) _) false (asked-number k ∙ z) (sym (c .if2 .left) ∙ answer-word k z _ _ (c .before .judge-answer .ensures))),
+      λ s k. answer-judged-of s (k .bytes) _ (bytes (e .before)) _ (verdict-word (refusal s) (judgeAnswer (jobOf s) _) true (asked-number k ∙ z) (sym (not-false _ (c .if2 .left)) ∙ answer-word k z _ _ (c .before .judge-answer .ensures))),
       λ n. absurd (n z),
     )
 
