@@ -1,5 +1,6 @@
 -- Questions 1 to 6 by the steps of the code: the form first, then the tree. Assumes nothing.
 use Prim.Native.Nat.{ℕ, zero, suc, _-_, _≤_}
+use native.Mathlib.Decide.{ℕ-discrete}
 use native.Mathlib.Omega.{arith}
 use mathlib.Core.Path.{_≡_, refl, sym, ap, _∙_}
 use mathlib.Core.Logic.{⊎-elim}
@@ -12,6 +13,7 @@ use Rattle.frame.specs.Job.{Job}
 use Rattle.frame.specs.Questions.{jobOf, numberQuestions, formRefusal, refusal}
 use Rattle.frame.specs.Division.{division}
 use Rattle.frame.specs.Form.{formed-pass, form-refusal}
+use Rattle.frame.specs.Accepted.{accepted}
 use Rattle.frame.specs.RoundTrip.{formed, job-of}
 use Rattle.job.specs.declared.read.Header.{Header}
 use Rattle.job.specs.Reading.{header, headerOf}
@@ -97,3 +99,13 @@ module _ (s : List ℕ) (h : Header) (e : h ≡ acceptedHeader s) where
   pub accepted-edges : h .refusal ≡ 0 → h .edges ≡ length (jobOf s .links)
   unfolding header
   accepted-edges z = ap (λ (h : Header). h .edges) (e ∙ ap (λ (r : ℕ). header r (jobOf s)) (accepted-number ∙ z))
+
+  -- A refusal has no links, and an accepted frame has at most 256.
+  pub accepted-few : Bytes s → h .edges ≤ 256
+  accepted-few b =
+      elim (ℕ-discrete (h .refusal) 0) [
+        | yes z ↦ omega (arith, accepted-edges z, accepted s b (accepted-number ∙ z) .edge-limit)
+        | no n ↦
+            let none : h .edges ≡ 0 = ap (λ (h : Header). h .edges) (e ∙ sym (refused-header (refusal s) (jobOf s) (λ z. n (sym accepted-number ∙ z)))) in
+            omega (arith, none)
+      ]

@@ -1,5 +1,6 @@
 -- A list is accepted as its frame is, and so is said of it what is said of the frame. Assumes nothing.
-use Prim.Native.Nat.{ℕ, zero, suc, _+_}
+use Prim.Native.Nat.{ℕ, zero, suc, _+_, _≤_}
+use native.Mathlib.Decide.{ℕ-discrete}
 use native.Mathlib.Omega.{arith}
 use mathlib.Core.Path.{_≡_, refl, sym, ap, subst, _∙_}
 use mathlib.Core.Logic.{_≢_, ⊎-map, ⊎-elim}
@@ -20,8 +21,8 @@ use Rattle.job.specs.declared.write.Reply.{Reply}
 use Rattle.job.specs.Writing.{jobAt, outcome}
 use Rattle.job.specs.WritingLaws.{written-refused}
 use Rattle.accept.specs.Accepting.{Asked, refusedHeader}
-use Rattle.accept.specs.AcceptLaws.{accepted-number, accepted-nodes, accepted-edges}
-use Rattle.accept.specs.ListJobs.{countRefusal, Given, ListAccepted}
+use Rattle.accept.specs.AcceptLaws.{accepted-number, accepted-nodes, accepted-edges, accepted-few}
+use Rattle.accept.specs.ListJobs.{listJob, countRefusal, Given, ListAccepted}
 use Rattle.accept.specs.ListAcceptLaws.{held-job}
 use Rattle.accept.specs.ListAskedLaws.{numbers-bytes, list-asked, asked-large}
 use Rattle.judging.specs.declared.Verdict.{Verdict}
@@ -140,6 +141,19 @@ module _ {nodes count : ℕ} {word : Bool} {links : List Link} {h : Header} {as�
   early P refused n =
       let e : h .refusal ≡ countRefusal nodes count word = ap (λ (h : Header). h .refusal) (g .refused n) in
       subst P e (refused (λ z. n (sym e ∙ z)))
+
+  -- Refused or not, there are at most 256 links.
+  pub given-few : h .edges ≤ 256
+  given-few =
+      elim (ℕ-discrete (countRefusal nodes count word) 0) [
+        | yes z ↦
+            let a = g .said z in
+            ⊎-elim
+            (λ y. accepted-few (jobFrame (listJob nodes (take count links))) h (a .header y) (numbers-bytes (jobNumbers (listJob nodes (take count links)))))
+            (λ f. omega (arith, ap (λ (h : Header). h .edges) (a .large f)))
+            (truth (small (listJob nodes (take count links))))
+        | no n ↦ omega (arith, ap (λ (h : Header). h .edges) (g .refused n))
+      ]
 
   pub given-judged : (Judged : List ℕ → Verdict → Type 0) (r : Verdict) → ((s : List ℕ) → Asked s h as₁ as₂ as₃ as₄ ts mask → Judged s r) → (h .refusal ≢ 0 → r ≡ Refused (h .refusal)) → Given nodes count word links (λ n. r ≡ Refused n) (λ j. ListJudged j Judged r)
   given-judged Judged r said refused = record { refused = early (λ n. r ≡ Refused n) refused; said = λ z. list-judged _ (g .said z) Judged r said refused }

@@ -1,7 +1,6 @@
 -- `lists::write_links` meets its contract: the writer's core is handed the first refusal and the job in the arrays.
 -- Assumes nothing.
-use native.Mathlib.Omega.{arith}
-use Rattle.lists.specs.ListServiceLaws.{given-written}
+use Rattle.lists.specs.ListServiceLaws.{given-few, given-written}
 use borrow.Author.Needs.{needs}
 use Rattle.lists.proofs.write_links.Statement.{statement}
 use Rattle.lists.proofs.write_links.Tie as tie
@@ -13,9 +12,7 @@ cast-edges : tie.Need-cast-edges
 cast-edges c = search needs
 
 write-job-requires : tie.Need-write-job-requires
-write-job-requires c κs =
-    let t = c .before .before .before .before .before .before in
-    λ z. let k = t .accept-links .ensures .1 z in omega (arith, k .edges-are, k .accepted .edge-limit)
+write-job-requires c κs = λ _. given-few (c .before .before .before .before .before .before .accept-links .ensures .0)
 
 same-length : tie.Need-same-length
 same-length c = search needs
