@@ -72,6 +72,8 @@ int32_t ist_answer_list(uint32_t stations, const ist_link *links, size_t count, 
 int32_t ist_judge_list(uint32_t stations, const ist_link *links, size_t count);
 int32_t ist_judge_answer_list(uint32_t stations, const ist_link *links, size_t count, const uint8_t *answer,
                               size_t answer_len);
+void ist_find_cost_list(uint32_t stations, const ist_link *links, size_t count, const uint8_t *answer, size_t answer_len,
+                        uint32_t link, size_t *offset, size_t *length);
 
 /* Writes the job frame of a list into the area. 0 or a refusal 1 to 7; *written is the frame's length, or 0 if refused. */
 int32_t ist_write_job(uint32_t stations, const ist_link *links, size_t count, uint8_t *area, size_t area_len,
