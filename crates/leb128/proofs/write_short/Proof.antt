@@ -38,6 +38,11 @@ add-area c = search needs
 cast-area-2 : tie.Need-cast-area-2
 cast-area-2 c = search needs
 
+returns-2 : tie.Need-returns-2
+returns-2 c =
+    let e = c .before in
+    rw (long (e .before .before .args .x) _ (omega (arith, e .if1 .left)) (c .last-byte .ensures)) (omega arith, rw add-one refl)
+
 slice-write-area-2 : tie.Need-slice-write-area-2
 slice-write-area-2 c =
     omega (arith, ap length (encode-more 2 (c .before .before .args .x) (λ e. omega (arith, e)) (omega (arith, c .if1 .left))))
@@ -58,11 +63,6 @@ add-result-2 c = search needs
 
 same-length-2 : tie.Need-same-length-2
 same-length-2 c = search needs
-
-returns-2 : tie.Need-returns-2
-returns-2 c =
-    let e = c .before in
-    rw (long (e .before .before .args .x) _ (omega (arith, e .if1 .left)) (c .last-byte .ensures)) (omega arith, rw add-one refl)
 
 pub write-short-spec : {M : Type 1} → statement M
 write-short-spec =

@@ -1,5 +1,6 @@
 -- `records::small` meets its contract: the definition's four tests, in the code's order.
 -- Assumes nothing.
+use native.Mathlib.Omega.{arith}
 use mathlib.Core.Path.{sym}
 use Rattle.records.specs.RecordsLaws.{large-end1, large-end2, large-cost, mark-decides}
 use Rattle.records.proofs.small.Statement.{statement}
@@ -12,7 +13,7 @@ returns-2 : tie.Need-returns-2
 returns-2 c = sym (large-end2 (c .before .before .before .before .args .l) (c .before .before .if1 .left) (c .if2 .taken))
 
 returns-3 : tie.Need-returns-3
-returns-3 c = sym (large-cost (c .before .before .before .before .before .before .args .l) (c .before .before .before .before .if1 .left) (c .before .before .if2 .left) (c .if3 .taken))
+returns-3 c = sym (large-cost (c .before .before .before .before .before .before .args .l) (c .before .before .before .before .if1 .left) (c .before .before .if2 .left) (omega (arith, c .if3 .taken)))
 
 returns-4 : tie.Need-returns-4
 returns-4 c = sym (mark-decides (c .before .before .before .before .before .before .before .args .l) (c .before .before .before .before .before .if1 .left) (c .before .before .before .if2 .left) (c .before .if3 .left))

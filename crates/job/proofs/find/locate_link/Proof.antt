@@ -22,7 +22,7 @@ returns-2 : tie.Need-returns-2
 returns-2 c =
     let k = c .before in
     let a = k .before .before .args in
-    (sym (find-none (a .frame .now) (a .header) (k .if1 .left) (accepted k) (a .edge .0) (c .if2 .taken)), omega arith)
+    (sym (find-none (a .frame .now) (a .header) (k .if1 .left) (accepted k) (a .edge .0) (omega (arith, c .if2 .taken))), omega arith)
 
 returns-3 : tie.Need-returns-3
 returns-3 w =

@@ -3,6 +3,7 @@ use Prim.Native.Nat.{_-_, _≤_}
 use mathlib.Core.Path.{_≡_, sym}
 use mathlib.Core.Bool.{true}
 use native.Mathlib.Omega.{arith}
+use lib.ListN.{getD}
 use borrow.Author.Needs.{needs}
 use borrow.Author.Tests.{le-leb, lt-leb}
 use Rattle.loops.specs.TestLaws.{all-miss, all-more}
@@ -33,7 +34,7 @@ returns c =
     let k = c .before .before in
     let l = k .before in
     let a = l .before .before .args in
-    sym (all-miss (a .edges) (markedAt (a .mark .now)) (l .loop .e) (k .loop-test .taken) (lt-leb _ 1 (c .if1 .taken)))
+    sym (all-miss (a .edges) (markedAt (a .mark .now)) (l .loop .e) (k .loop-test .taken) (lt-leb (getD (a .mark .now) (l .loop .e) 0) 1 (omega (arith, c .if1 .taken))))
 
 add-e : tie.Need-add-e Inv-loop μ-loop
 add-e c = omega arith

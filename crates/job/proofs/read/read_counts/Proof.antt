@@ -77,7 +77,7 @@ returns-5 : tie.Need-returns-5
 returns-5 c =
     let k = c .before .before .before .before .before .before .before in
     let n = k .before .before .before .before in
-    c .refused-counts5 .ensures ∙ sym (counts-edges _ _ (counted n) (bytes k) (k .before .before .if1 .left) (k .before .number-at .result) (k .number-at2 .result) (k .before .number-at .ensures) (k .number-at2 .ensures) (c .before .if4 .taken))
+    c .refused-counts5 .ensures ∙ sym (counts-edges _ _ (counted n) (bytes k) (k .before .before .if1 .left) (k .before .number-at .result) (k .number-at2 .result) (k .before .number-at .ensures) (k .number-at2 .ensures) (omega (arith, c .before .if4 .taken)))
 
 cast-if5 : tie.Need-cast-if5
 cast-if5 c = search needs

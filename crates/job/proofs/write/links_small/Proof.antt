@@ -60,7 +60,7 @@ returns-3 c =
     let l = c .before .before .before .before .before .before .before in
     let a = l .before .args in
     sym (all-miss (a .edges) (λ e. smallEdge (record { end₁ = getD (a .end1 .now) e 0; end₂ = getD (a .end2 .now) e 0; cost = getD (a .cost .now) e 0; mark = getD (a .mark .now) e 0 })) (l .loop .e) (c .before .before .before .before .before .before .loop-test .taken)
-    (large-cost (getD (a .end1 .now) (l .loop .e) 0) (getD (a .end2 .now) (l .loop .e) 0) (getD (a .cost .now) (l .loop .e) 0) (getD (a .mark .now) (l .loop .e) 0) (c .before .before .before .before .if1 .left) (c .before .before .if2 .left) (c .if3 .taken)))
+    (large-cost (getD (a .end1 .now) (l .loop .e) 0) (getD (a .end2 .now) (l .loop .e) 0) (getD (a .cost .now) (l .loop .e) 0) (getD (a .mark .now) (l .loop .e) 0) (c .before .before .before .before .if1 .left) (c .before .before .if2 .left) (omega (arith, c .if3 .taken))))
 
 mul-if4 : tie.Need-mul-if4 Inv-loop μ-loop
 mul-if4 c = omega arith
