@@ -1,6 +1,7 @@
 -- `job::write::check_list` meets its contract: each return is the first "no", by the tests that led there.
 -- Assumes nothing.
 use Prim.Native.Nat.{ℕ, min}
+use native.Mathlib.Omega.{arith}
 use mathlib.Core.Path.{_≡_, sym, ap, _∙_}
 use borrow.Author.Tests.{not-true, not-false}
 use Rattle.job.specs.Writing.{linksSmall}
@@ -58,19 +59,13 @@ returns-6 : tie.Need-returns-6
 returns-6 c =
     let t = c .before .before .before .before .before .before .before .before in
     let a = t .args in
-    sym (check-edges (a .nodes) (a .edges) (a .end1 .now) (a .end2 .now) (a .cost .now) (a .mark .now) (t .pre) (sym (small-answer (c .before .before .before .before)) ∙ not-false _ (c .before .before .before .if3 .left)) (c .before .before .before .before .before .before .before .if1 .left) (c .before .before .before .before .before .before .if2 .left) (c .before .before .if4 .left) (c .before .if5 .left) (c .if6 .taken))
-
-ends-hold-requires : tie.Need-ends-hold-requires
-ends-hold-requires c κs = search needs
+    sym (check-edges (a .nodes) (a .edges) (a .end1 .now) (a .end2 .now) (a .cost .now) (a .mark .now) (t .pre) (sym (small-answer (c .before .before .before .before)) ∙ not-false _ (c .before .before .before .if3 .left)) (c .before .before .before .before .before .before .before .if1 .left) (c .before .before .before .before .before .before .if2 .left) (c .before .before .if4 .left) (c .before .if5 .left) (omega (arith, c .if6 .taken)))
 
 returns-7 : tie.Need-returns-7
 returns-7 c =
     let t = c .before .before .before .before .before .before .before .before .before .before in
     let a = t .args in
     sym (check-ends (a .nodes) (a .edges) (a .end1 .now) (a .end2 .now) (a .cost .now) (a .mark .now) (t .pre) (sym (small-answer (c .before .before .before .before .before .before)) ∙ not-false _ (c .before .before .before .before .before .if3 .left)) (c .before .before .before .before .before .before .before .before .before .if1 .left) (c .before .before .before .before .before .before .before .before .if2 .left) (c .before .before .before .before .if4 .left) (c .before .before .before .if5 .left) (c .before .before .if6 .left) (sym (c .before .ends-hold .ensures) ∙ not-true _ (c .if7 .taken)))
-
-marks-hold-requires : tie.Need-marks-hold-requires
-marks-hold-requires c κs = search needs
 
 returns-8 : tie.Need-returns-8
 returns-8 c =
@@ -83,6 +78,12 @@ returns-9 c =
     let t = c .before .before .before .before .before .before .before .before .before .before .before .before in
     let a = t .args in
     sym (check-passed (a .nodes) (a .edges) (a .end1 .now) (a .end2 .now) (a .cost .now) (a .mark .now) (t .pre) (sym (small-answer (c .before .before .before .before .before .before .before .before)) ∙ not-false _ (c .before .before .before .before .before .before .before .if3 .left)) (c .before .before .before .before .before .before .before .before .before .before .before .if1 .left) (c .before .before .before .before .before .before .before .before .before .before .if2 .left) (c .before .before .before .before .before .before .if4 .left) (c .before .before .before .before .before .if5 .left) (c .before .before .before .before .if6 .left) (sym (c .before .before .before .ends-hold .ensures) ∙ not-false _ (c .before .before .if7 .left)) (sym (c .before .marks-hold .ensures) ∙ not-false _ (c .if8 .left)))
+
+ends-hold-requires : tie.Need-ends-hold-requires
+ends-hold-requires c κs = search needs
+
+marks-hold-requires : tie.Need-marks-hold-requires
+marks-hold-requires c κs = search needs
 
 pub check-list-spec : {M : Type 1} → statement M
 check-list-spec =

@@ -68,6 +68,15 @@ mul-if4 c = omega arith
 element-copy-out-if4 : tie.Need-element-copy-out-if4 Inv-loop μ-loop
 element-copy-out-if4 c = omega arith
 
+loop-again : tie.Need-loop-again Inv-loop μ-loop
+loop-again c =
+    let l = c .before .before .before .before .before .before .before .before .before in
+    let a = l .before .args in (
+      omega arith,
+      all-more (l .loop .e) (λ e. smallEdge (record { end₁ = getD (a .end1 .now) e 0; end₂ = getD (a .end2 .now) e 0; cost = getD (a .cost .now) e 0; mark = getD (a .mark .now) e 0 })) (l .loop .inv .1)
+          (small-holds (getD (a .end1 .now) (l .loop .e) 0) (getD (a .end2 .now) (l .loop .e) 0) (getD (a .cost .now) (l .loop .e) 0) (getD (a .mark .now) (l .loop .e) 0) (c .before .before .before .before .before .before .if1 .left) (c .before .before .before .before .if2 .left) (c .before .before .if3 .left) (c .if4 .left)),
+    )
+
 returns-4 : tie.Need-returns-4 Inv-loop μ-loop
 returns-4 c =
     let l = c .before .before .before .before .before .before .before .before .before in
@@ -80,15 +89,6 @@ add-e c = omega arith
 
 loop-less : tie.Need-loop-less Inv-loop μ-loop
 loop-less c = omega arith
-
-loop-again : tie.Need-loop-again Inv-loop μ-loop
-loop-again c =
-    let l = c .before .before .before .before .before .before .before .before .before in
-    let a = l .before .args in (
-      omega arith,
-      all-more (l .loop .e) (λ e. smallEdge (record { end₁ = getD (a .end1 .now) e 0; end₂ = getD (a .end2 .now) e 0; cost = getD (a .cost .now) e 0; mark = getD (a .mark .now) e 0 })) (l .loop .inv .1)
-          (small-holds (getD (a .end1 .now) (l .loop .e) 0) (getD (a .end2 .now) (l .loop .e) 0) (getD (a .cost .now) (l .loop .e) 0) (getD (a .mark .now) (l .loop .e) 0) (c .before .before .before .before .before .before .if1 .left) (c .before .before .before .before .if2 .left) (c .before .before .if3 .left) (c .if4 .left)),
-    )
 
 returns-5 : tie.Need-returns-5 Inv-loop μ-loop
 returns-5 c =
