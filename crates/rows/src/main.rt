@@ -1,5 +1,6 @@
 // Runs the remaining rows: refusals, areas that are just too short, the example of 13 steps, answers made elsewhere, the
-// finders, the readers, and the longest job with the longest answer. The rows T1 to T9 are proved (specs/Rows.antt).
+// finders, the readers, small trees, and the longest job with the longest answer. The rows T1 to T9 are proved
+// (specs/Rows.antt).
 use ids::Edge;
 use judging::Verdict;
 use leb128::Number;
@@ -247,6 +248,131 @@ fn parts(t1: &[u8], other: &[u8]) {
     show_part(b"cost in no answer", finding::find_cost(t1, t1, Edge(0)));
 }
 
+fn stars() {
+    show_verdict(b"one station", judging::judge(b"\x01\x00"));
+    show_verdict(b"two stations, no link", judging::judge(b"\x02\x00"));
+    show_verdict(
+        b"star, spares as dear",
+        judging::judge(
+            b"\x04\x05\x00\x01\x05\x01\x00\x02\x05\x01\x00\x03\x05\x01\x01\x02\x05\x00\x02\x03\x06\x00",
+        ),
+    );
+    show_verdict(
+        b"star, one spare cheaper",
+        judging::judge(
+            b"\x04\x05\x00\x01\x05\x01\x00\x02\x05\x01\x00\x03\x05\x01\x01\x02\x05\x00\x02\x03\x04\x00",
+        ),
+    );
+    show_verdict(
+        b"star, one mark too few",
+        judging::judge(
+            b"\x04\x05\x00\x01\x05\x01\x00\x02\x05\x01\x00\x03\x05\x00\x01\x02\x05\x00\x02\x03\x06\x00",
+        ),
+    );
+    show_verdict(
+        b"star, link past the stations",
+        judging::judge(
+            b"\x03\x05\x00\x01\x05\x01\x00\x02\x05\x01\x00\x03\x05\x01\x01\x02\x05\x00\x02\x03\x06\x00",
+        ),
+    );
+}
+
+fn chains() {
+    show_verdict(
+        b"path, spares as dear",
+        judging::judge(
+            b"\x04\x06\x00\x01\x01\x01\x01\x02\x09\x01\x02\x03\x02\x01\x00\x03\x09\x00\x02\x03\x02\x00\x01\x00\x01\x00",
+        ),
+    );
+    show_verdict(
+        b"path, the long spare cheaper",
+        judging::judge(
+            b"\x04\x06\x00\x01\x01\x01\x01\x02\x09\x01\x02\x03\x02\x01\x00\x03\x08\x00\x02\x03\x02\x00\x01\x00\x01\x00",
+        ),
+    );
+    show_verdict(
+        b"path, a short spare cheaper",
+        judging::judge(
+            b"\x04\x06\x00\x01\x01\x01\x01\x02\x09\x01\x02\x03\x02\x01\x00\x03\x09\x00\x02\x03\x02\x00\x01\x00\x00\x00",
+        ),
+    );
+}
+
+// The dearest tree links are the farthest from station 0.
+fn far_ends() {
+    show_verdict(
+        b"path from its far end, spares as dear",
+        judging::judge(
+            b"\x05\x06\x04\x03\x09\x01\x03\x02\x08\x01\x02\x01\x07\x01\x01\x00\x06\x01\x04\x00\x09\x00\x02\x00\x07\x00",
+        ),
+    );
+    show_verdict(
+        b"path from its far end, one spare cheaper",
+        judging::judge(
+            b"\x05\x06\x04\x03\x09\x01\x03\x02\x08\x01\x02\x01\x07\x01\x01\x00\x06\x01\x04\x00\x09\x00\x02\x00\x06\x00",
+        ),
+    );
+}
+
+fn parallels() {
+    show_verdict(
+        b"parallel links, none cheaper",
+        judging::judge(b"\x02\x03\x00\x01\x03\x01\x00\x01\x03\x00\x01\x00\x04\x00"),
+    );
+    show_verdict(
+        b"parallel links, one cheaper",
+        judging::judge(b"\x02\x03\x00\x01\x03\x01\x00\x01\x03\x00\x01\x00\x02\x00"),
+    );
+    show_verdict(
+        b"parallel links, the second marked",
+        judging::judge(b"\x02\x03\x00\x01\x03\x00\x00\x01\x03\x01\x01\x00\x04\x00"),
+    );
+}
+
+fn cycles() {
+    show_verdict(
+        b"cycle with the right number of marks",
+        judging::judge(b"\x04\x04\x00\x01\x01\x01\x01\x02\x01\x01\x02\x00\x01\x01\x02\x03\x01\x00"),
+    );
+    show_verdict(
+        b"all but one station, one link doubled",
+        judging::judge(b"\x04\x04\x00\x01\x01\x01\x01\x02\x01\x01\x02\x01\x01\x01\x02\x03\x01\x00"),
+    );
+    show_verdict(
+        b"cycle away from the first station",
+        judging::judge(b"\x04\x04\x01\x02\x01\x01\x02\x03\x01\x01\x03\x01\x01\x01\x00\x01\x01\x00"),
+    );
+}
+
+fn limits() {
+    show_verdict(
+        b"spare at the highest cost",
+        judging::judge(b"\x03\x03\x00\x01\x00\x01\x01\x02\xff\x7f\x01\x00\x02\xff\x7f\x00"),
+    );
+    show_verdict(
+        b"spare just below the highest cost",
+        judging::judge(b"\x03\x03\x00\x01\x00\x01\x01\x02\xff\x7f\x01\x00\x02\xfe\x7f\x00"),
+    );
+    show_verdict(
+        b"all costs 0",
+        judging::judge(b"\x03\x03\x00\x01\x00\x01\x01\x02\x00\x01\x00\x02\x00\x00"),
+    );
+    show_verdict(
+        b"tree at the highest cost, spare at 0",
+        judging::judge(b"\x03\x03\x00\x01\xff\x7f\x01\x01\x02\xff\x7f\x01\x00\x02\x00\x00"),
+    );
+}
+
+// Trees that are cheapest, that are not, and marks that are no tree.
+fn trees() {
+    stars();
+    chains();
+    far_ends();
+    parallels();
+    cycles();
+    limits();
+}
+
 fn main() {
     let t1 = b"\x03\x03\x00\x01\x05\x01\x01\x02\x04\x01\x00\x02\x02\x00";
     let other = b"\x03\x05\x04\x05\x01\x00\x02";
@@ -262,5 +388,6 @@ fn main() {
         b"a list of no link, records behind it",
         lists::judge_links(64, 0, true, long_links()),
     );
+    trees();
     longest();
 }

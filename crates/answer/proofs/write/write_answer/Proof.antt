@@ -17,6 +17,14 @@ use borrow.Author.Needs.{needs}
 use Rattle.answer.proofs.write.write_answer.Statement.{statement}
 use Rattle.answer.proofs.write.write_answer.Tie as tie
 
+refused-requires : tie.Need-refused-requires
+refused-requires c κs = search needs
+
+returns : tie.Need-returns
+returns c =
+    let a = c .before .before .before .args in
+    rw (c .refused .ensures) (written-refused (a .refusal) _ (a .at) (a .area .now) (c .before .if1 .taken))
+
 -- the arrays hold the costs and the pairs
 within : (e : tie.Else3) → let a = e .before .before .before .before .before .args in (a .edges ≤ 256) × (a .count ≤ 64)
 within e = e .before .before .before .before .before .pre (e .before .before .before .if1 .left)
@@ -39,14 +47,6 @@ put2 k = put-more _ _ _ _ _ _ _ _ (put1 (k .before .before .before .before)) (k 
 
 put3 : (k : tie.After-write2) → let a = k .before .before .before .before .before .before .before .before .before .before .before .before .before .before .before .args in Put (a .area .now) (a .at) (encode 3 (a .steps) ++ bytesOf (costsAt (a .edges) (a .costs .now)) ++ encode 2 (a .count)) (k .write2 .result) (k .write2 .last .0)
 put3 k = put-more _ _ _ _ _ _ _ _ (put2 (k .before .before .before .before)) (k .write2 .ensures .0) (k .write2 .ensures .1)
-
-refused-requires : tie.Need-refused-requires
-refused-requires c κs = search needs
-
-returns : tie.Need-returns
-returns c =
-    let a = c .before .before .before .args in
-    rw (c .refused .ensures) (written-refused (a .refusal) _ (a .at) (a .area .now) (c .before .if1 .taken))
 
 answer-size-requires : tie.Need-answer-size-requires
 answer-size-requires c κs = c .before .before .pre (c .if1 .left)

@@ -1,2 +1,0 @@
--- Which arrays may be judged.
-pub mod Fit
