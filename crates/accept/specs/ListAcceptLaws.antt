@@ -76,7 +76,12 @@ held-rows j as₁ as₂ as₃ as₄ ts mask h =
     (λ i. tabulate (length (j .links)) (λ e. record { end₁ = h .end₁ i e; end₂ = h .end₂ i e; cost = h .cost i e; mark = h .mark i e })) ∙
     tabulate-getD (j .links) noEdge
 
-pub held-job : (j : Job) (nodes edges : ℕ) (as₁ as₂ as₃ as₄ ts mask : List ℕ) → Held j as₁ as₂ as₃ as₄ ts mask → nodes ≡ j .nodes → edges ≡ length (j .links) → jobAt nodes edges as₁ as₂ as₃ as₄ ≡ j
+pub held-job :
+    (j : Job) (nodes edges : ℕ) (as₁ as₂ as₃ as₄ ts mask : List ℕ) →
+    Held j as₁ as₂ as₃ as₄ ts mask →
+    nodes ≡ j .nodes →
+    edges ≡ length (j .links) →
+    jobAt nodes edges as₁ as₂ as₃ as₄ ≡ j
 held-job j nodes edges as₁ as₂ as₃ as₄ ts mask h n m =
     let links : rows edges as₁ as₂ as₃ as₄ ≡ j .links = ap (λ (k : ℕ). rows k as₁ as₂ as₃ as₄) m ∙ held-rows j as₁ as₂ as₃ as₄ ts mask h in
     λ i. record { nodes = n i; links = links i }

@@ -48,7 +48,15 @@ link-found s b e =
       past = λ z l. link-past s e b z l;
     }
 
-pub link-located : (s : List ℕ) → Bytes s → (h : Header) → h ≡ acceptedHeader s → (e : ℕ) (place : Place) → place ≡ linkPlace (h .refusal) s e → place .offset + place .size ≤ length s → LinkLocated s e place
+pub link-located :
+    (s : List ℕ) →
+    Bytes s →
+    (h : Header) →
+    h ≡ acceptedHeader s →
+    (e : ℕ) (place : Place) →
+    place ≡ linkPlace (h .refusal) s e →
+    place .offset + place .size ≤ length s →
+    LinkLocated s e place
 link-located s b h q e place p w =
     let is : place ≡ linkPlace (refusal s) s e = p ∙ ap (λ (r : ℕ). linkPlace r s e) (sym (accepted-number s h q)) in
     record { is = is; within = w; found = subst (λ t. LinkFound s e (partAt t s)) (sym is) (link-found s b e) }

@@ -51,7 +51,10 @@ module _ {s : List ℕ} {h : Header} {as₁ as₂ as₃ as₄ ts mask : List ℕ
   pub tree-asked : Judged (h .edges) (h .nodes - 1) ts as₁ as₂ mask
   tree-asked = judge-asked (jobOf s) as₁ as₂ as₃ as₄ ts mask (k .held z) (asked-accepted k z) (h .nodes) (h .edges) (asked-nodes k z) (asked-edges k z) (h .nodes - 1) refl
 
-  pub tree-word : (r : Bool) → ((nodes : ℕ) → paths mask ≡ rooted (arrayGraph nodes (h .edges) as₁ as₂) (take (h .nodes - 1) ts) .path → r ≡ judge (arrayGraph nodes (h .edges) as₁ as₂) (arrayTree as₄) (arrayCost as₃) (take (h .nodes - 1) ts)) → r ≡ judgeTree (jobOf s)
+  pub tree-word :
+      (r : Bool) →
+      ((nodes : ℕ) → paths mask ≡ rooted (arrayGraph nodes (h .edges) as₁ as₂) (take (h .nodes - 1) ts) .path → r ≡ judge (arrayGraph nodes (h .edges) as₁ as₂) (arrayTree as₄) (arrayCost as₃) (take (h .nodes - 1) ts)) →
+      r ≡ judgeTree (jobOf s)
   tree-word r e =
       e (h .nodes) (paths-held (jobOf s) as₁ as₂ as₃ as₄ ts mask (k .held z) (h .nodes) (h .edges) (asked-nodes k z) (asked-edges k z) (h .nodes - 1) refl)
       ∙ judge-held (jobOf s) as₁ as₂ as₃ as₄ ts mask (k .held z) (asked-accepted k z) (h .nodes) (h .edges) (asked-nodes k z) (asked-edges k z) (h .nodes - 1) refl

@@ -1,4 +1,5 @@
 // The labels of a matching: the lowest costs (specs/Store.antt; the model is in optimum's specs/Lowest.antt).
+use ids::Edge;
 use ids::SpareRank;
 use ids::TreeRank;
 ghost use mathlib.Core.Path.{_≡_};
@@ -148,8 +149,8 @@ fn cost_at(k: u32, cost: &[u32; 256], ranks: &[u32; 256]) -> u32
     requires { ⌜ (k < 256) × (getD (now ranks) k 0 < 256) ⌝ }
     ensures { λ r. ⌜ r ≡ costAt (now (cost .entry)) (now (ranks .entry)) k ⌝ }
 {
-    let e = ranks[k as usize];
-    cost[e as usize]
+    let e = Edge(ranks[k as usize]);
+    cost[e.0 as usize]
 }
 
 // Is tree rank `t` the next origin, and not the last of the `left` spare ranks that are left?

@@ -46,7 +46,10 @@ lent-as nodes ys Early Said {n} {word} {links} size test copy g =
     (subst (λ (k : ℕ). Given nodes k word links Early Said) size g))
 
 module _ (nodes : ℕ) (ys : List Link) where
-  pub lent-judged : (word : List ℕ → Bool) (Claim : List ℕ → Type 0) (r : Verdict) → Lent nodes ys (λ n. r ≡ Refused n) (λ j. ListJudged j (λ s. VerdictOn s (word s) (Claim s)) r) → ListJudged (listJob nodes ys) (λ s. VerdictOn s (word s) (Claim s)) r
+  pub lent-judged :
+      (word : List ℕ → Bool) (Claim : List ℕ → Type 0) (r : Verdict) →
+      Lent nodes ys (λ n. r ≡ Refused n) (λ j. ListJudged j (λ s. VerdictOn s (word s) (Claim s)) r) →
+      ListJudged (listJob nodes ys) (λ s. VerdictOn s (word s) (Claim s)) r
   lent-judged word Claim r =
       lent nodes ys (λ n. r ≡ Refused n) (λ j. ListJudged j (λ s. VerdictOn s (word s) (Claim s)) r)
       (λ f e. record { large = λ _. e; said = λ y. clash y f })
@@ -54,7 +57,10 @@ module _ (nodes : ℕ) (ys : List Link) where
       let s = jobFrame (listJob nodes ys) in
       record { large = λ f. clash y f; said = λ _. refused-judged s (numbers-bytes (jobNumbers (listJob nodes ys))) (word s) (Claim s) 2 two (λ z. omega (arith, z)) r e })
 
-  pub lent-answered : (area : List ℕ) (r : Reply) (after : List ℕ) → Lent nodes ys (λ n. Untouched n area r after) (λ j. ListAnswered j area r after) → ListAnswered (listJob nodes ys) area r after
+  pub lent-answered :
+      (area : List ℕ) (r : Reply) (after : List ℕ) →
+      Lent nodes ys (λ n. Untouched n area r after) (λ j. ListAnswered j area r after) →
+      ListAnswered (listJob nodes ys) area r after
   lent-answered area r after =
       lent nodes ys (λ n. Untouched n area r after) (λ j. ListAnswered j area r after)
       (λ f u. record { large = λ _. u; said = λ y. clash y f })
@@ -68,7 +74,10 @@ module _ (nodes : ℕ) (ys : List Link) where
             (untouched-written 2 bytes (λ z. omega (arith, z)) u ∙ ap (λ (n : ℕ). written n bytes 0 area) (sym two));
       })
 
-  pub lent-written : (area : List ℕ) (r : Reply) (after : List ℕ) → Lent nodes ys (λ n. Untouched n area r after) (λ j. ListWritten j area r after) → ListWritten (listJob nodes ys) area r after
+  pub lent-written :
+      (area : List ℕ) (r : Reply) (after : List ℕ) →
+      Lent nodes ys (λ n. Untouched n area r after) (λ j. ListWritten j area r after) →
+      ListWritten (listJob nodes ys) area r after
   lent-written area r after =
       lent nodes ys (λ n. Untouched n area r after) (λ j. ListWritten j area r after)
       (λ f u. large-written (listJob nodes ys) f area r after u)
@@ -76,7 +85,12 @@ module _ (nodes : ℕ) (ys : List Link) where
       let s = jobFrame (listJob nodes ys) in
       small-written (listJob nodes ys) y area r after (untouched-written 2 s (λ z. omega (arith, z)) u ∙ ap (λ (n : ℕ). written n s 0 area) (sym two)))
 
-  pub lent-located : (f : List ℕ) → Bytes f → (e : ℕ) (place : Place) → Lent nodes ys (λ _. place ≡ nowhere) (λ j. ListCostLocated j f e place) → ListCostLocated (listJob nodes ys) f e place
+  pub lent-located :
+      (f : List ℕ) →
+      Bytes f →
+      (e : ℕ) (place : Place) →
+      Lent nodes ys (λ _. place ≡ nowhere) (λ j. ListCostLocated j f e place) →
+      ListCostLocated (listJob nodes ys) f e place
   lent-located f b e place =
       lent nodes ys (λ _. place ≡ nowhere) (λ j. ListCostLocated j f e place)
       (λ n is. record { large = λ _. is; said = λ y. clash y n })

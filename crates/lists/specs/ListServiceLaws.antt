@@ -93,21 +93,33 @@ large-written j f area r after u =
 -- ---- a list that was accepted or refused
 
 module _ {h : Header} {as₁ as₂ as₃ as₄ ts mask : List ℕ} (j : Job) (a : ListAccepted j h as₁ as₂ as₃ as₄ ts mask) where
-  list-judged : (Judged : List ℕ → Verdict → Type 0) (r : Verdict) → ((s : List ℕ) → Asked s h as₁ as₂ as₃ as₄ ts mask → Judged s r) → (h .refusal ≢ 0 → r ≡ Refused (h .refusal)) → ListJudged j Judged r
+  list-judged :
+      (Judged : List ℕ → Verdict → Type 0) (r : Verdict) →
+      ((s : List ℕ) → Asked s h as₁ as₂ as₃ as₄ ts mask → Judged s r) →
+      (h .refusal ≢ 0 → r ≡ Refused (h .refusal)) →
+      ListJudged j Judged r
   list-judged Judged r said refused =
       record {
         large = λ n. let one = asked-large j n a in refused (λ z. omega (arith, one, z)) ∙ ap Refused one;
         said = λ y. said (jobFrame j) (list-asked j y a);
       }
 
-  list-answered : (area : List ℕ) (r : Reply) (after : List ℕ) → ((s : List ℕ) → Asked s h as₁ as₂ as₃ as₄ ts mask → Answered s area r after) → (h .refusal ≢ 0 → Untouched (h .refusal) area r after) → ListAnswered j area r after
+  list-answered :
+      (area : List ℕ) (r : Reply) (after : List ℕ) →
+      ((s : List ℕ) → Asked s h as₁ as₂ as₃ as₄ ts mask → Answered s area r after) →
+      (h .refusal ≢ 0 → Untouched (h .refusal) area r after) →
+      ListAnswered j area r after
   list-answered area r after said refused =
       record {
         large = λ n. let one = asked-large j n a in subst (λ (x : ℕ). Untouched x area r after) one (refused (λ z. omega (arith, one, z)));
         said = λ y. said (jobFrame j) (list-asked j y a);
       }
 
-  list-located : (f : List ℕ) (e : ℕ) (place : Place) → ((s : List ℕ) → Asked s h as₁ as₂ as₃ as₄ ts mask → CostLocated s f e place) → (h .refusal ≢ 0 → place ≡ nowhere) → ListCostLocated j f e place
+  list-located :
+      (f : List ℕ) (e : ℕ) (place : Place) →
+      ((s : List ℕ) → Asked s h as₁ as₂ as₃ as₄ ts mask → CostLocated s f e place) →
+      (h .refusal ≢ 0 → place ≡ nowhere) →
+      ListCostLocated j f e place
   list-located f e place said refused =
       record {
         large = λ n. let one = asked-large j n a in refused (λ z. omega (arith, one, z));
@@ -155,16 +167,31 @@ module _ {nodes count : ℕ} {word : Bool} {links : List Link} {h : Header} {as�
         | no n ↦ omega (arith, ap (λ (h : Header). h .edges) (g .refused n))
       ]
 
-  pub given-judged : (Judged : List ℕ → Verdict → Type 0) (r : Verdict) → ((s : List ℕ) → Asked s h as₁ as₂ as₃ as₄ ts mask → Judged s r) → (h .refusal ≢ 0 → r ≡ Refused (h .refusal)) → Given nodes count word links (λ n. r ≡ Refused n) (λ j. ListJudged j Judged r)
+  pub given-judged :
+      (Judged : List ℕ → Verdict → Type 0) (r : Verdict) →
+      ((s : List ℕ) → Asked s h as₁ as₂ as₃ as₄ ts mask → Judged s r) →
+      (h .refusal ≢ 0 → r ≡ Refused (h .refusal)) →
+      Given nodes count word links (λ n. r ≡ Refused n) (λ j. ListJudged j Judged r)
   given-judged Judged r said refused = record { refused = early (λ n. r ≡ Refused n) refused; said = λ z. list-judged _ (g .said z) Judged r said refused }
 
-  pub given-answered : (area : List ℕ) (r : Reply) (after : List ℕ) → ((s : List ℕ) → Asked s h as₁ as₂ as₃ as₄ ts mask → Answered s area r after) → (h .refusal ≢ 0 → Untouched (h .refusal) area r after) → Given nodes count word links (λ n. Untouched n area r after) (λ j. ListAnswered j area r after)
+  pub given-answered :
+      (area : List ℕ) (r : Reply) (after : List ℕ) →
+      ((s : List ℕ) → Asked s h as₁ as₂ as₃ as₄ ts mask → Answered s area r after) →
+      (h .refusal ≢ 0 → Untouched (h .refusal) area r after) →
+      Given nodes count word links (λ n. Untouched n area r after) (λ j. ListAnswered j area r after)
   given-answered area r after said refused = record { refused = early (λ n. Untouched n area r after) refused; said = λ z. list-answered _ (g .said z) area r after said refused }
 
-  pub given-located : (f : List ℕ) (e : ℕ) (place : Place) → ((s : List ℕ) → Asked s h as₁ as₂ as₃ as₄ ts mask → CostLocated s f e place) → (h .refusal ≢ 0 → place ≡ nowhere) → Given nodes count word links (λ _. place ≡ nowhere) (λ j. ListCostLocated j f e place)
+  pub given-located :
+      (f : List ℕ) (e : ℕ) (place : Place) →
+      ((s : List ℕ) → Asked s h as₁ as₂ as₃ as₄ ts mask → CostLocated s f e place) →
+      (h .refusal ≢ 0 → place ≡ nowhere) →
+      Given nodes count word links (λ _. place ≡ nowhere) (λ j. ListCostLocated j f e place)
   given-located f e place said refused = record { refused = early (λ _. place ≡ nowhere) refused; said = λ z. list-located _ (g .said z) f e place said refused }
 
-  pub given-written : (area : List ℕ) (r : Reply) (after : List ℕ) → outcome r after ≡ written (h .refusal) (jobFrame (jobAt (h .nodes) (h .edges) as₁ as₂ as₃ as₄)) 0 area → Given nodes count word links (λ n. Untouched n area r after) (λ j. ListWritten j area r after)
+  pub given-written :
+      (area : List ℕ) (r : Reply) (after : List ℕ) →
+      outcome r after ≡ written (h .refusal) (jobFrame (jobAt (h .nodes) (h .edges) as₁ as₂ as₃ as₄)) 0 area →
+      Given nodes count word links (λ n. Untouched n area r after) (λ j. ListWritten j area r after)
   given-written area r after e =
       record {
         refused = early (λ n. Untouched n area r after) (λ n. untouched (h .refusal) (jobFrame (jobAt (h .nodes) (h .edges) as₁ as₂ as₃ as₄)) n e);

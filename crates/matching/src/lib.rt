@@ -1,4 +1,5 @@
 // The matching, built one tree rank at a time (specs/Progress.antt; the model is in optimum's specs/Search.antt).
+use ids::Edge;
 use ids::SpareRank;
 use ids::TreeRank;
 ghost use mathlib.Core.Path.{_≡_};
@@ -21,9 +22,11 @@ fn gains(
     if spares <= goal.0 {
         return false;
     }
-    let e = ss[goal.0 as usize];
-    let f = ts[t.0 as usize];
-    cost[e as usize] < cost[f as usize]
+    let spare = ss[goal.0 as usize];
+    let tree = ts[t.0 as usize];
+    let e = Edge(spare);
+    let f = Edge(tree);
+    cost[e.0 as usize] < cost[f.0 as usize]
 }
 
 // Matches tree rank `t` along an alternating path to the goal, if one leads there. Was the goal met?

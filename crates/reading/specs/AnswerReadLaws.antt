@@ -50,7 +50,13 @@ module _ (m : ℕ) (r : Contents) (cs ts ss : List ℕ) (k : Behind m (r .count)
       ]
 
   -- One number of each pair.
-  pairs-whole : (f : Pair → ℕ) (xs : List ℕ) → f noPair ≡ 0 → length xs ≡ 64 → ((i : ℕ) → getD xs i 0 ≡ f (pairIn ts ss i)) → ((i : ℕ) → r .count ≤ i → getD xs i 0 ≡ getD (zeros 64) i 0) → xs ≡ tabulate 64 (λ i. f (getD (tabulate (r .count) (pairIn ts ss)) i noPair))
+  pairs-whole :
+      (f : Pair → ℕ) (xs : List ℕ) →
+      f noPair ≡ 0 →
+      length xs ≡ 64 →
+      ((i : ℕ) → getD xs i 0 ≡ f (pairIn ts ss i)) →
+      ((i : ℕ) → r .count ≤ i → getD xs i 0 ≡ getD (zeros 64) i 0) →
+      xs ≡ tabulate 64 (λ i. f (getD (tabulate (r .count) (pairIn ts ss)) i noPair))
   pairs-whole f xs z size is past =
       whole 64 xs (λ i. f (getD (tabulate (r .count) (pairIn ts ss)) i noPair)) size
       λ i _.
@@ -78,7 +84,9 @@ module _ (m : ℕ) (r : Contents) (cs ts ss : List ℕ) (o : Option Answer) (e :
   found : r .ok ≡ true
   found = ⊎-elim (λ y. y) (λ n. absurd (omega (arith, most, missed-answer m r cs ts ss o e n a is))) (truth (r .ok))
 
-  pub contents-read : (r .ok ≡ true → Behind m (r .count) (zeros 256) cs (zeros 64) ts (zeros 64) ss) → record { verdict = Yes; steps = r .steps; costs = cs; count = r .count; trees = ts; spares = ss } ≡ answerRead a
+  pub contents-read :
+      (r .ok ≡ true → Behind m (r .count) (zeros 256) cs (zeros 64) ts (zeros 64) ss) →
+      record { verdict = Yes; steps = r .steps; costs = cs; count = r .count; trees = ts; spares = ss } ≡ answerRead a
   contents-read kept =
       let same : answerIn m (r .steps) (r .count) cs ts ss ≡ a = cc (found-answer m r cs ts ss o e found, is) in
       arrays-read m r cs ts ss (kept found) ∙ ap answerRead same

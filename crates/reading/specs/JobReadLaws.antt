@@ -39,7 +39,11 @@ module _ (n : ℕ) (as₁ as₂ as₃ as₄ : List ℕ) where
   pub gather-start : Gathering (replicate n zeroLink) 0
   gather-start = record { within = omega arith; is = sym (copied-none n (gathered n as₁ as₂ as₃ as₄)) }
 
-  pub gather-turn : (links : List Link) (e : ℕ) → e < n → Gathering links e → Gathering (set links e (record { end1 = getD as₁ e 0; end2 = getD as₂ e 0; cost = getD as₃ e 0; mark = getD as₄ e 0 })) (e + 1)
+  pub gather-turn :
+      (links : List Link) (e : ℕ) →
+      e < n →
+      Gathering links e →
+      Gathering (set links e (record { end1 = getD as₁ e 0; end2 = getD as₂ e 0; cost = getD as₃ e 0; mark = getD as₄ e 0 })) (e + 1)
   unfolding row
   gather-turn links e l g =
       let ys = gathered n as₁ as₂ as₃ as₄ in

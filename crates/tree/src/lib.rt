@@ -111,9 +111,11 @@ fn expand(
     let mut untried = word;
     while untried != 0 {
         let k = bits::lowest(untried);
-        let e = ranks[k as usize] as usize;
-        let u = end1[e];
-        let v = end2[e];
+        let number = ranks[k as usize];
+        let e = Edge(number);
+        let at = e.0 as usize;
+        let u = end1[at];
+        let v = end2[at];
         next = grow(next, Node(u), Node(v), TreeRank(k), mask);
         untried = bits::without_lowest(untried);
     }
@@ -209,8 +211,9 @@ fn spare_holds(
     let mut left = crossing(mask, Node(a), Node(b));
     while left != 0 {
         let k = bits::lowest(left) as usize;
-        let t = ranks[k] as usize;
-        if limit < cost[t] {
+        let number = ranks[k];
+        let t = Edge(number);
+        if limit < cost[t.0 as usize] {
             return false;
         }
         left = bits::without_lowest(left);

@@ -40,33 +40,33 @@ loop-holds c = (c .pre .1 .1, trying-start _ _ _ _ _ (omega arith))
 lowest-requires : tie.Need-lowest-requires Inv-loop μ-loop
 lowest-requires c κs = omega arith
 
-cast-e : tie.Need-cast-e Inv-loop μ-loop
-cast-e c = omega (arith, rank-below c)
+cast-number : tie.Need-cast-number Inv-loop μ-loop
+cast-number c = omega (arith, rank-below c)
 
-mul-e : tie.Need-mul-e Inv-loop μ-loop
-mul-e c = omega (arith, rank-below c)
+mul-number : tie.Need-mul-number Inv-loop μ-loop
+mul-number c = omega (arith, rank-below c)
 
-element-copy-out-e : tie.Need-element-copy-out-e Inv-loop μ-loop
-element-copy-out-e c = omega (arith, rank-below c)
+element-copy-out-number : tie.Need-element-copy-out-number Inv-loop μ-loop
+element-copy-out-number c = omega (arith, rank-below c)
 
-cast-e-2 : tie.Need-cast-e-2 Inv-loop μ-loop
-cast-e-2 c = omega (arith, edge-below (c .before))
+cast-at : tie.Need-cast-at Inv-loop μ-loop
+cast-at c = omega (arith, edge-below (c .before .before))
 
 mul-u : tie.Need-mul-u Inv-loop μ-loop
-mul-u c = omega (arith, edge-below (c .before))
+mul-u c = omega (arith, edge-below (c .before .before))
 
 element-copy-out-u : tie.Need-element-copy-out-u Inv-loop μ-loop
-element-copy-out-u c = edge-below (c .before)
+element-copy-out-u c = edge-below (c .before .before)
 
 mul-v : tie.Need-mul-v Inv-loop μ-loop
-mul-v c = omega (arith, edge-below (c .before .before))
+mul-v c = omega (arith, edge-below (c .before .before .before))
 
 element-copy-out-v : tie.Need-element-copy-out-v Inv-loop μ-loop
-element-copy-out-v c = edge-below (c .before .before)
+element-copy-out-v c = edge-below (c .before .before .before)
 
 grow-requires : tie.Need-grow-requires Inv-loop μ-loop
 grow-requires c κs =
-    let e = c .before .before .before .before in
+    let e = c .before .before .before .before .before in
     let l = e .before .before .loop in
     let s = e .before .before .before in
     record {
@@ -82,13 +82,13 @@ without-lowest-requires c κs = omega arith
 
 loop-less : tie.Need-loop-less Inv-loop μ-loop
 loop-less c =
-    let e = c .before .before .before .before .before .before in
+    let e = c .before .before .before .before .before .before .before in
     let l = e .before .before .loop in
     word-less (l .untried) (omega arith) (l .inv .1 .fits) (e .lowest .result) (e .lowest .ensures) (c .without-lowest .result) (c .without-lowest .ensures)
 
 loop-again : tie.Need-loop-again Inv-loop μ-loop
 loop-again c =
-    let e = c .before .before .before .before .before .before in
+    let e = c .before .before .before .before .before .before .before in
     let l = e .before .before .loop in
     let a = e .before .before .before .args in (
       c .before .grow .ensures .1,
@@ -110,10 +110,10 @@ expand-spec =
     μ-loop
     loop-holds
     lowest-requires
-    cast-e
-    mul-e
-    element-copy-out-e
-    cast-e-2
+    cast-number
+    mul-number
+    element-copy-out-number
+    cast-at
     mul-u
     element-copy-out-u
     mul-v

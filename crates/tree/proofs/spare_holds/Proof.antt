@@ -75,24 +75,24 @@ lowest-requires c κs = omega arith
 cast-k : tie.Need-cast-k Inv-loop μ-loop
 cast-k c = omega (arith, rank-below c)
 
-mul-t : tie.Need-mul-t Inv-loop μ-loop
-mul-t c = omega (arith, rank-below c)
+mul-number : tie.Need-mul-number Inv-loop μ-loop
+mul-number c = omega (arith, rank-below c)
 
-element-copy-out-t : tie.Need-element-copy-out-t Inv-loop μ-loop
-element-copy-out-t c = omega (arith, rank-below c)
+element-copy-out-number : tie.Need-element-copy-out-number Inv-loop μ-loop
+element-copy-out-number c = omega (arith, rank-below c)
 
-cast-t : tie.Need-cast-t Inv-loop μ-loop
-cast-t c = omega (arith, edge-below (c .before))
+cast-if1 : tie.Need-cast-if1 Inv-loop μ-loop
+cast-if1 c = omega (arith, edge-below (c .before .before))
 
 mul-if1 : tie.Need-mul-if1 Inv-loop μ-loop
-mul-if1 c = omega (arith, edge-below (c .before))
+mul-if1 c = omega (arith, edge-below (c .before .before))
 
 element-copy-out-if1 : tie.Need-element-copy-out-if1 Inv-loop μ-loop
-element-copy-out-if1 c = omega (arith, edge-below (c .before))
+element-copy-out-if1 c = omega (arith, edge-below (c .before .before))
 
 returns : tie.Need-returns Inv-loop μ-loop
 returns c =
-    let e = c .before .before .before in
+    let e = c .before .before .before .before in
     let l = e .before .before .loop in
     let a = e .before .before .before .before .before .before .before .before .args in
     let missed = word-miss (l .left) (omega arith) (l .inv .1) (e .lowest .result) (e .lowest .ensures)
@@ -104,13 +104,13 @@ without-lowest-requires c κs = omega arith
 
 loop-less : tie.Need-loop-less Inv-loop μ-loop
 loop-less c =
-    let e = c .before .before .before .before in
+    let e = c .before .before .before .before .before in
     let l = e .before .before .loop in
     word-less (l .left) (omega arith) (l .inv .1) (e .lowest .result) (e .lowest .ensures) (c .without-lowest .result) (c .without-lowest .ensures)
 
 loop-again : tie.Need-loop-again Inv-loop μ-loop
 loop-again c =
-    let e = c .before .before .before .before in
+    let e = c .before .before .before .before .before in
     let l = e .before .before .loop in
     let some : 0 < l .left = omega arith in (
       word-turn (l .left) some (l .inv .1) (e .lowest .result) (e .lowest .ensures) (c .without-lowest .result) (c .without-lowest .ensures) _ (le-leb _ _ (c .before .if1 .left)) ∙ l .inv .0,
@@ -140,9 +140,9 @@ spare-holds-spec =
     loop-holds
     lowest-requires
     cast-k
-    mul-t
-    element-copy-out-t
-    cast-t
+    mul-number
+    element-copy-out-number
+    cast-if1
     mul-if1
     element-copy-out-if1
     returns
