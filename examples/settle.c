@@ -28,7 +28,11 @@ int main(void) {
     printf("job of %zu bytes\n", job_len);
 
     int32_t verdict = ist_judge(job, job_len);
-    printf("the marked tree is %s\n", verdict == IST_OK ? "cheapest" : "not cheapest");
+    if (verdict != IST_YES && verdict != IST_NO) {
+        printf("refused %d\n", (int)verdict);
+        return 1;
+    }
+    printf("the marked tree is %s\n", verdict == IST_YES ? "cheapest" : "not cheapest");
 
     uint8_t answer[IST_ANSWER_MOST];
     size_t answer_len;
@@ -38,7 +42,7 @@ int main(void) {
         return 1;
     }
     printf("answer of %zu bytes, judged %s\n", answer_len,
-           ist_judge_answer(job, job_len, answer, answer_len) == IST_OK ? "yes" : "no");
+           ist_judge_answer(job, job_len, answer, answer_len) == IST_YES ? "yes" : "no");
 
     for (uint32_t link = 0; link < count; link++) {
         size_t offset, length;

@@ -1,6 +1,7 @@
 /* Least-step link costs for a marked spanning tree (inverse spanning tree): the library's functions for C.
  *
- * Every function takes any bytes and any numbers, always returns, keeps no state, and calls nothing but memcpy and memset.
+ * Every function takes any bytes and any numbers, always returns, keeps no state, may be called again while it runs, and
+ * calls nothing but memcpy and memset. docs/FRAMES.md has the layout of job and answer frames, with examples.
  *
  * What the caller owes, since nothing can test it here:
  * - a pointer with its length names that many elements that may be read (and written, for `area`); they are aligned as C
@@ -8,15 +9,8 @@
  * - `area`, `written`, `offset` and `length` overlap nothing else that is passed;
  * - a pointer is never null. For an empty slice pass any aligned pointer that is not null, with length 0.
  *
- * Results. A refusal is the first "no" of the questions put to the job:
- *   1  a number is not in shortest form of one or two bytes (in a list: above 16,383)
- *   2  the counts: stations 1 to 64, links 0 to 256
- *   3  there are not exactly 2 + 4 * links numbers (never of a list)
- *   4  a link's ends are not below the station count and different
- *   5  a mark is neither 0 nor 1
- *   6  the marked links are no spanning tree
- *   7  the area is too short for what would be written
- * A refusal writes nothing into the area.
+ * Results. A refusal is the first "no" of the questions put to the job, by the numbers below; it writes nothing into the area.
+ * A judge's yes is 0, like success; its no is -1; compare with the names.
  */
 #ifndef IST_H
 #define IST_H
@@ -28,10 +22,26 @@
 extern "C" {
 #endif
 
-/* Done; from a judge: yes. */
+/* Done. */
 #define IST_OK 0
-/* From a judge: the job is accepted, and the word is no. */
+/* From a judge: yes, or no of an accepted job. */
+#define IST_YES 0
 #define IST_NO (-1)
+
+/* Refusals: a number is not in shortest form of one or two bytes (in a list: it is above 16,383); */
+#define IST_REFUSED_NUMBER 1
+/* the counts are not 1 to 64 stations and 0 to 256 links; */
+#define IST_REFUSED_COUNTS 2
+/* there are not exactly 2 + 4 * links numbers (never of a list); */
+#define IST_REFUSED_LENGTH 3
+/* a link's ends are not below the station count and different; */
+#define IST_REFUSED_ENDS 4
+/* a mark is neither 0 nor 1; */
+#define IST_REFUSED_MARK 5
+/* the marked links are no spanning tree; */
+#define IST_REFUSED_TREE 6
+/* the area is too short for what would be written. */
+#define IST_REFUSED_AREA 7
 
 /* The longest job frame and the longest answer frame, in bytes. */
 #define IST_JOB_MOST 1283
@@ -41,11 +51,11 @@ extern "C" {
  * answer frame in the area. 0 or a refusal; *written is the answer's length, or 0 if refused. */
 int32_t ist_answer(const uint8_t *job, size_t job_len, uint8_t *area, size_t area_len, size_t *written);
 
-/* Is the marked tree of a job frame cheapest? IST_OK, IST_NO, or a refusal 1 to 6. */
+/* Is the marked tree of a job frame cheapest? IST_YES (0), IST_NO (-1), or a refusal 1 to 6. */
 int32_t ist_judge(const uint8_t *job, size_t job_len);
 
-/* Is a frame an answer to the job frame, with the fewest steps, as its own pairing proves? IST_OK, IST_NO, or a refusal of
- * the job, 1 to 6. */
+/* Is a frame an answer to the job frame, with the fewest steps, as its own pairing proves? IST_YES (0), IST_NO (-1), or a
+ * refusal of the job, 1 to 6. */
 int32_t ist_judge_answer(const uint8_t *job, size_t job_len, const uint8_t *answer, size_t answer_len);
 
 /* Where a link's four numbers stand in its job frame: *offset and *length, in bytes; both 0 if the job is refused or has no
@@ -53,7 +63,7 @@ int32_t ist_judge_answer(const uint8_t *job, size_t job_len, const uint8_t *answ
 void ist_find_link(const uint8_t *job, size_t job_len, uint32_t link, size_t *offset, size_t *length);
 
 /* Where a link's new cost stands in an answer frame: *offset and *length, in bytes; both 0 if the job is refused or has no
- * such link, or the answer is not judged yes. */
+ * such link, or the answer is not judged yes. The answer is judged at each call. */
 void ist_find_cost(const uint8_t *job, size_t job_len, const uint8_t *answer, size_t answer_len, uint32_t link,
                    size_t *offset, size_t *length);
 
