@@ -4,10 +4,6 @@
 
 #include "ist.h"
 
-static uint32_t number_at(const uint8_t *bytes, size_t length) {
-    return length == 1 ? bytes[0] : bytes[0] % 128 + 128u * bytes[1];
-}
-
 int main(void) {
     const ist_link links[] = {
         {0, 1, 5, 1},
@@ -44,11 +40,32 @@ int main(void) {
     printf("answer of %zu bytes, judged %s\n", answer_len,
            ist_judge_answer(job, job_len, answer, answer_len) == IST_YES ? "yes" : "no");
 
-    for (uint32_t link = 0; link < count; link++) {
-        size_t offset, length;
-        ist_find_cost(job, job_len, answer, answer_len, link, &offset, &length);
-        printf("link %u: cost %u becomes %u\n", link, links[link].cost, number_at(answer + offset, length));
+    /* What the answer says. It is judged once more; for a frame made elsewhere this call alone is enough. */
+    uint32_t costs[IST_LINKS_MOST], pairs[2 * IST_PAIRS_MOST], steps;
+    size_t cost_count, pair_count;
+    verdict = ist_read_answer(job, job_len, answer, answer_len, costs, IST_LINKS_MOST, pairs, 2 * IST_PAIRS_MOST, &steps,
+                              &cost_count, &pair_count);
+    if (verdict != IST_YES) {
+        printf("not read: %d\n", (int)verdict);
+        return 1;
     }
+    printf("steps %u\n", steps);
+    for (size_t link = 0; link < cost_count; link++)
+        printf("link %zu: cost %u becomes %u\n", link, links[link].cost, costs[link]);
+    for (size_t pair = 0; pair < pair_count; pair++)
+        printf("pair: tree link %u, spare link %u\n", pairs[2 * pair], pairs[2 * pair + 1]);
+
+    /* The job again, as a host reads it that is sent the frame. */
+    ist_link read[IST_LINKS_MOST];
+    uint32_t read_stations;
+    size_t read_count;
+    refusal = ist_read_job(job, job_len, read, 4 * IST_LINKS_MOST, &read_stations, &read_count);
+    if (refusal != IST_OK) {
+        printf("refused %d\n", (int)refusal);
+        return 1;
+    }
+    printf("read again: %u stations, %zu links, the last %u - %u\n", read_stations, read_count, read[read_count - 1].end1,
+           read[read_count - 1].end2);
 
     /* An area that is too short is refused, and nothing is written. */
     refusal = ist_answer(job, job_len, answer, answer_len - 1, &answer_len);

@@ -1,16 +1,25 @@
 /* Least-step link costs for a marked spanning tree (inverse spanning tree): the library's functions for C.
  *
- * Every function takes any bytes and any numbers, always returns, keeps no state, may be called again while it runs, and
- * calls nothing but memcpy and memset. docs/FRAMES.md has the layout of job and answer frames, with examples.
+ * Every function takes any bytes and any numbers and always returns. All are reentrant: they keep no state, may be called
+ * again while they run, from several threads at once, and call nothing but memcpy and memset. docs/FRAMES.md has the layout of
+ * job and answer frames, with examples.
  *
  * What the caller owes, since nothing can test it here:
- * - a pointer with its length names that many elements that may be read (and written, for `area`); they are aligned as C
- *   aligns their type, and nobody changes them during the call;
- * - `area`, `written`, `offset` and `length` overlap nothing else that is passed;
- * - a pointer is never null. For an empty slice pass any aligned pointer that is not null, with length 0.
+ * - a pointer with its length names that many elements that may be read (and written, unless it points to const); they are
+ *   aligned as C aligns their type, and nobody changes them during the call;
+ * - what is written overlaps nothing else that is passed;
+ * - a pointer is never null, not even for an empty vector: there pass any aligned pointer that is not null, as that of an array
+ *   of one element, with length 0;
+ * - enough stack. Measured on x86-64 (bench/stack), rounded up to the next 100 bytes:
+ *     ist_answer        16,000    ist_answer_list        20,100
+ *     ist_judge          8,100    ist_judge_list         16,300
+ *     ist_judge_answer   8,100    ist_judge_answer_list  16,300
+ *     ist_find_link      8,100    ist_find_cost_list     16,300
+ *     ist_find_cost      8,200    ist_write_job          20,400
+ *     ist_read_job      15,300    ist_read_answer        11,400
  *
- * Results. A refusal is the first "no" of the questions put to the job, by the numbers below; it writes nothing into the area.
- * A judge's yes is 0, like success; its no is -1; compare with the names.
+ * Results. A refusal is the first "no" of the questions put to the job, by the numbers below; it writes nothing into an area or
+ * an array. A judge's yes is 0, like success; its no is -1; compare with the names.
  */
 #ifndef IST_H
 #define IST_H
@@ -40,22 +49,25 @@ extern "C" {
 #define IST_REFUSED_MARK 5
 /* the marked links are no spanning tree; */
 #define IST_REFUSED_TREE 6
-/* the area is too short for what would be written. */
+/* the area, or an array, is too short for what would be written. */
 #define IST_REFUSED_AREA 7
 
 /* The longest job frame and the longest answer frame, in bytes. */
 #define IST_JOB_MOST 1283
 #define IST_ANSWER_MOST 768
+/* The most links of a job, and the most pairs of an answer. */
+#define IST_LINKS_MOST 256
+#define IST_PAIRS_MOST 63
 
 /* Answers a job frame: the new costs with the fewest steps and among those the lowest, and a pairing that proves it, as an
  * answer frame in the area. 0 or a refusal; *written is the answer's length, or 0 if refused. */
 int32_t ist_answer(const uint8_t *job, size_t job_len, uint8_t *area, size_t area_len, size_t *written);
 
-/* Is the marked tree of a job frame cheapest? IST_YES (0), IST_NO (-1), or a refusal 1 to 6. */
+/* Is the marked tree of a job frame cheapest? IST_YES (0), IST_NO (-1), or a refusal 1 to 6: 0 is YES. */
 int32_t ist_judge(const uint8_t *job, size_t job_len);
 
 /* Is a frame an answer to the job frame, with the fewest steps, as its own pairing proves? IST_YES (0), IST_NO (-1), or a
- * refusal of the job, 1 to 6. */
+ * refusal of the job, 1 to 6: 0 is YES. */
 int32_t ist_judge_answer(const uint8_t *job, size_t job_len, const uint8_t *answer, size_t answer_len);
 
 /* Where a link's four numbers stand in its job frame: *offset and *length, in bytes; both 0 if the job is refused or has no
@@ -63,7 +75,8 @@ int32_t ist_judge_answer(const uint8_t *job, size_t job_len, const uint8_t *answ
 void ist_find_link(const uint8_t *job, size_t job_len, uint32_t link, size_t *offset, size_t *length);
 
 /* Where a link's new cost stands in an answer frame: *offset and *length, in bytes; both 0 if the job is refused or has no
- * such link, or the answer is not judged yes. The answer is judged at each call. */
+ * such link, or the answer is not judged yes. The answer is judged at each call: for all costs call ist_read_answer, which
+ * judges it once. */
 void ist_find_cost(const uint8_t *job, size_t job_len, const uint8_t *answer, size_t answer_len, uint32_t link,
                    size_t *offset, size_t *length);
 
@@ -75,8 +88,24 @@ typedef struct {
     uint32_t mark;
 } ist_link;
 
+/* Reads a job frame into an array of links, in link order. `numbers` is the room in the array in numbers, four to a link: 4 * n
+ * for an array of n links; 4 * IST_LINKS_MOST is enough for every job. 0 or a refusal 1 to 7; *stations and *count are the job's
+ * station count and link count, or both 0 if refused. Links behind *count stay as they were; all do if refused. */
+int32_t ist_read_job(const uint8_t *job, size_t job_len, ist_link *links, size_t numbers, uint32_t *stations, size_t *count);
+
+/* Judges a frame as an answer to the job frame, as ist_judge_answer does and only once, and if it is one reads it: *steps; into
+ * `costs` the new cost of each link in link order, *cost_count of them, which is the job's link count; into `pairs` the pairs in
+ * the frame's order, *pair_count of them, two numbers each: tree link, spare link. costs_len and pairs_len are the room in
+ * numbers; IST_LINKS_MOST and 2 * IST_PAIRS_MOST are enough for every answer. IST_YES (0), IST_NO (-1), a refusal of the job, 1
+ * to 6, or 7 for an answer judged yes if an array is too short: 0 is YES. If it is not 0, *steps and both counts are 0 and both
+ * arrays stay as they were; numbers behind what is written always do. */
+int32_t ist_read_answer(const uint8_t *job, size_t job_len, const uint8_t *answer, size_t answer_len, uint32_t *costs,
+                        size_t costs_len, uint32_t *pairs, size_t pairs_len, uint32_t *steps, size_t *cost_count,
+                        size_t *pair_count);
+
 /* The same on a list of links: exactly what the functions above say of the frame that holds the station count, the list's
- * length and its records in order; refusal 1 if one of these numbers is above 16,383. */
+ * length and its records in order; refusal 1 if one of these numbers is above 16,383. A judge's 0 is YES here too, and
+ * ist_find_cost_list judges the answer at each call. */
 int32_t ist_answer_list(uint32_t stations, const ist_link *links, size_t count, uint8_t *area, size_t area_len,
                         size_t *written);
 int32_t ist_judge_list(uint32_t stations, const ist_link *links, size_t count);

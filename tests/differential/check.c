@@ -7,8 +7,9 @@
 #include "generate.h"
 #include "lend.h"
 #include "lists.h"
+#include "readers.h"
 
-enum { ALTERED = 5, FEW_STEPS = 4, SEARCHED_EDGES = 5, ALL_LINKS = 32 };
+enum { ALTERED = 5, READ_IN = 3, FEW_STEPS = 4, SEARCHED_EDGES = 5, ALL_LINKS = 32 };
 
 struct counts counts;
 bool thorough;
@@ -133,6 +134,16 @@ static void check_finders(void)
     }
 }
 
+/* Reads the answer frame lent. */
+static void check_read_offer(const struct numbers *answer, bool yes)
+{
+    static struct answer contents;
+
+    if (yes)
+        read_answer(&job, answer, &contents);
+    check_read_answer(verdict(yes), refusal == 0 ? job.edges : 0, &contents);
+}
+
 /* Holds the judge of answers, and a cost found by its word, to the reference's. */
 static void check_offer(const uint8_t *frame, size_t length)
 {
@@ -144,6 +155,8 @@ static void check_offer(const uint8_t *frame, size_t length)
     expect("ist_judge_answer", ist_judge_answer(lent.job, lent.job_length, lent.answer, lent.answer_length), verdict(yes));
     check_list_offer(verdict(yes));
     check_find_cost(pick(refusal == 0 ? (uint32_t)job.edges + 1 : 2), &answer, yes);
+    if (thorough || pick(READ_IN) == 0)
+        check_read_offer(&answer, yes);
     counts.offers_yes += yes;
     counts.offers_no += !yes;
 }
@@ -210,6 +223,7 @@ static void check_lent(void)
         solve(&job, &solution);
     check_answer();
     check_judge();
+    check_read_job(refusal, &job);
     check_finders();
     check_offers();
     check_list_writers(refusal, given.frame, given.length);

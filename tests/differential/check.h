@@ -6,7 +6,7 @@
 
 struct counts {
     size_t frames, refused[7], with_steps, cheapest, steps_most, answer_longest;
-    size_t searched, offers_yes, offers_no, finds, lists, lists_refused[7], list_calls;
+    size_t searched, offers_yes, offers_no, finds, lists, lists_refused[7], list_calls, reads;
 };
 
 extern struct counts counts;

@@ -352,6 +352,7 @@ static void print_counts(void)
     printf("longest answer %zu bytes; %zu searched whole\n", counts.answer_longest, counts.searched);
     printf("%zu areas, %zu parts found, %zu answers judged yes, %zu judged no or refused\n", areas_tried, counts.finds,
            counts.offers_yes, counts.offers_no);
+    printf("%zu frames read into arrays\n", counts.reads);
     print_list_counts();
 }
 

@@ -8,17 +8,16 @@ use mathlib.Core.List.{List}
 use lib.Dec.{ltb}
 use lib.ListN.{length}
 use Rattle.loops.specs.TestLaws.{truth}
-use Rattle.leb128.specs.Number.{Bytes}
+use Rattle.number.specs.Number.{Bytes}
 use Rattle.frame.specs.Job.{Job}
 use Rattle.frame.specs.Questions.{jobOf, numberQuestions, formRefusal, refusal}
 use Rattle.frame.specs.Division.{division}
 use Rattle.frame.specs.Form.{formed-pass, form-refusal}
 use Rattle.frame.specs.Accepted.{accepted}
-use Rattle.frame.specs.RoundTrip.{formed, job-of}
-use Rattle.job.specs.declared.read.Header.{Header}
-use Rattle.job.specs.Reading.{header, headerOf}
-use Rattle.job.specs.JobRoundTrip.{links-few}
-use Rattle.accept.specs.Accepting.{treeRefusal, refusedHeader, acceptedHeader}
+use Rattle.frame.specs.RoundTrip.{formed, job-of, links-few}
+use Rattle.job.specs.declared.Header.{Header}
+use Rattle.job.specs.Reading.{header, headerOf, refusedHeader}
+use Rattle.accept.specs.Accepting.{treeRefusal, acceptedHeader}
 
 -- A frame refused by its form is refused by the same number.
 refused-form : (s : List ℕ) → (formRefusal s ≡ 0 → ⊥) → refusal s ≡ formRefusal s

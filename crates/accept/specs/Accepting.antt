@@ -7,11 +7,11 @@ use Rattle.graph.specs.Rank.{treeRanks}
 use Rattle.frame.specs.Job.{Job, link, jobNumbers, graphOf, treeOf, costOf}
 use Rattle.frame.specs.Questions.{jobOf, ask, question6, refusal}
 use Rattle.frame.specs.Meaning.{Small, EndsHold}
-use Rattle.leb128.specs.Number.{Bytes}
-use Rattle.tree.specs.Arrays.{Ranked, Walked}
-use Rattle.job.specs.declared.read.Header.{Header}
+use Rattle.number.specs.Number.{Bytes}
+use Rattle.paths.specs.Arrays.{RankedEnds, Walked}
+use Rattle.job.specs.declared.Header.{Header}
 use Rattle.job.specs.Reading.{header}
-use Rattle.job.specs.Held.{zeros}
+use Rattle.links.specs.ColumnLaws.{zeros}
 
 -- Arrays of zeros, and one of 256 places.
 pub record Empty (as₁ as₂ as₃ as₄ ts : List ℕ) : Type 0 where
@@ -24,10 +24,6 @@ pub record Empty (as₁ as₂ as₃ as₄ ts : List ℕ) : Type 0 where
 -- The refusal of question 6, once the others are passed.
 abbrev pub treeRefusal : Job → ℕ
 treeRefusal j = ask (question6 j) 6 λ _. 0
-
--- A refusal has no counts.
-abbrev pub refusedHeader : ℕ → Header
-refusedHeader r = record { refusal = r; nodes = 0; edges = 0 }
 
 -- The refusal of questions 1 to 6, or the counts.
 abbrev pub acceptedHeader : List ℕ → Header
@@ -60,7 +56,7 @@ pub record Held (j : Job) (as₁ as₂ as₃ as₄ ts mask : List ℕ) : Type 0 
   pub places : length as₃ ≡ 256
   pub ranks : take (j .nodes - 1) ts ≡ treeRanks (graphOf j) (treeOf j) (costOf j)
   pub ranks-places : length ts ≡ 256
-  pub ranked : Ranked (j .nodes) (j .nodes - 1) ts as₁ as₂
+  pub ranked : RankedEnds (j .nodes) (j .nodes - 1) ts as₁ as₂
   pub walked : Walked (j .nodes) (j .nodes - 1) ts as₁ as₂ (j .nodes) mask
 
 -- The frame s has been asked questions 1 to 6: what they said, and an accepted job in arrays.

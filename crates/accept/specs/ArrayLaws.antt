@@ -9,21 +9,21 @@ use lib.Dec.{leb, eqb}
 use lib.ListN.{length, getD, take}
 use lib.Seq.{length-sets, sets, getD-take}
 use borrow.Author.Tests.{ne-eqb}
-use Rattle.leb128.specs.Number.{Bytes}
+use Rattle.number.specs.Number.{Bytes}
 use Rattle.graph.specs.CountLaws.{count-below}
 use Rattle.graph.specs.Rank.{sorted, members, treeRanks}
 use Rattle.graph.specs.RankLaws.{tree-lists}
 use Rattle.graph.specs.Paths.{isTree}
-use Rattle.frame.specs.Job.{Edge, Job, link, jobNumbers, graphOf, treeOf, costOf}
+use Rattle.frame.specs.Job.{JobLink, Job, link, jobNumbers, graphOf, treeOf, costOf}
 use Rattle.frame.specs.Questions.{jobOf, question6, formRefusal}
 use Rattle.frame.specs.Meaning.{Small, EndsHold}
-use Rattle.frame.specs.RoundTrip.{formed, job-of, job-numbers}
+use Rattle.frame.specs.RoundTrip.{formed, job-of, job-numbers, links-few}
 use Rattle.frame.specs.Accepted.{cost-small}
-use Rattle.tree.specs.Arrays.{arrayGraph, Ranked, Walked}
+use Rattle.paths.specs.Arrays.{arrayGraph, RankedEnds, Walked}
 use Rattle.ranks.specs.Keys.{treeList, SmallCosts}
-use Rattle.job.specs.Reading.{Loaded, arrays, filled, firsts, seconds, costs, marks, Places}
-use Rattle.job.specs.Held.{held, length-zeros}
-use Rattle.job.specs.JobRoundTrip.{links-few}
+use Rattle.job.specs.Reading.{LinksLoaded, arrays, filled}
+use Rattle.links.specs.Columns.{firsts, seconds, costs, marks, Places}
+use Rattle.links.specs.ColumnLaws.{column-held, length-zeros}
 use Rattle.accept.specs.Accepting.{Empty, Stored, StoredAs, Held, treeRefusal}
 
 abbrev placesOf : List ℕ → ℕ → ℕ
@@ -51,11 +51,19 @@ stored s z₁ z₂ z₃ z₄ ts₀ as₁ as₂ as₃ as₄ b none empty full =
     let ls = jobOf s .links in
     let (ns, f) = formed s b none in
     record {
-      end₁ = ap placesOf (ap (λ (l : Loaded). l .end₁) full ∙ ap (λ (z : List ℕ). sets z 0 (firsts ls)) (empty .end₁)) ∙ held (λ (l : Edge). l .end₁) refl 256 ls few;
-      end₂ = ap placesOf (ap (λ (l : Loaded). l .end₂) full ∙ ap (λ (z : List ℕ). sets z 0 (seconds ls)) (empty .end₂)) ∙ held (λ (l : Edge). l .end₂) refl 256 ls few;
-      cost = ap placesOf (ap (λ (l : Loaded). l .cost) full ∙ ap (λ (z : List ℕ). sets z 0 (costs ls)) (empty .cost)) ∙ held (λ (l : Edge). l .cost) refl 256 ls few;
-      mark = ap placesOf (ap (λ (l : Loaded). l .mark) full ∙ ap (λ (z : List ℕ). sets z 0 (marks ls)) (empty .mark)) ∙ held (λ (l : Edge). l .mark) refl 256 ls few;
-      places = ap length (ap (λ (l : Loaded). l .cost) full) ∙ length-sets z₃ 0 (costs ls) ∙ ap length (empty .cost) ∙ length-zeros 256;
+      end₁ =
+          ap placesOf (ap (λ (l : LinksLoaded). l .end₁) full ∙ ap (λ (z : List ℕ). sets z 0 (firsts ls)) (empty .end₁)) ∙
+          column-held (λ (l : JobLink). l .end₁) refl 256 ls few;
+      end₂ =
+          ap placesOf (ap (λ (l : LinksLoaded). l .end₂) full ∙ ap (λ (z : List ℕ). sets z 0 (seconds ls)) (empty .end₂)) ∙
+          column-held (λ (l : JobLink). l .end₂) refl 256 ls few;
+      cost =
+          ap placesOf (ap (λ (l : LinksLoaded). l .cost) full ∙ ap (λ (z : List ℕ). sets z 0 (costs ls)) (empty .cost)) ∙
+          column-held (λ (l : JobLink). l .cost) refl 256 ls few;
+      mark =
+          ap placesOf (ap (λ (l : LinksLoaded). l .mark) full ∙ ap (λ (z : List ℕ). sets z 0 (marks ls)) (empty .mark)) ∙
+          column-held (λ (l : JobLink). l .mark) refl 256 ls few;
+      places = ap length (ap (λ (l : LinksLoaded). l .cost) full) ∙ length-sets z₃ 0 (costs ls) ∙ ap length (empty .cost) ∙ length-zeros 256;
       nodes-few = omega (arith, ap (λ (j : Job). j .nodes) (job-of s ns b (f .divides)), f .counted .node-limit);
       edges-few = few;
       small = subst Small (sym (ap jobNumbers (job-of s ns b (f .divides)) ∙ job-numbers ns (f .counted .two) (f .complete))) (f .divides .small);
@@ -115,7 +123,7 @@ module _ {j : Job} {n m : ℕ} {as₁ as₂ as₃ as₄ : List ℕ} (k : StoredA
           let in-list = tree-lists (graphOf j) (treeOf j) (costOf j) .below k (omega (arith, ts-count)) in
           subst (λ (e : ℕ). e < length (j .links)) (ap (λ (r : List ℕ). getD r k 0) (sym ts-are) ∙ getD-take count ts k 0 l) in-list
 
-      pub tree-ranked : Ranked n count ts as₁ as₂
+      pub tree-ranked : RankedEnds n count ts as₁ as₂
       tree-ranked =
           record {
             small = omega (arith, pn, h .nodes-few);
@@ -147,6 +155,6 @@ module _ {j : Job} {n m : ℕ} {as₁ as₂ as₃ as₄ : List ℕ} (k : StoredA
             places = h .places;
             ranks = ap (λ (c : ℕ). take c ts) (sym last) ∙ ts-are;
             ranks-places = places;
-            ranked = subst (λ (c : ℕ). Ranked (j .nodes) c ts as₁ as₂) last (subst (λ (n : ℕ). Ranked n count ts as₁ as₂) pn tree-ranked);
+            ranked = subst (λ (c : ℕ). RankedEnds (j .nodes) c ts as₁ as₂) last (subst (λ (n : ℕ). RankedEnds n count ts as₁ as₂) pn tree-ranked);
             walked = subst (λ (c : ℕ). Walked (j .nodes) c ts as₁ as₂ (j .nodes) mask) last (subst (λ (n : ℕ). Walked n count ts as₁ as₂ n mask) pn w);
           }

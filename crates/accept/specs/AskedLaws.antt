@@ -7,7 +7,7 @@ use lib.ListN.{length}
 use Rattle.frame.specs.Questions.{jobOf, refusal}
 use Rattle.frame.specs.Meaning.{Accepted}
 use Rattle.frame.specs.Accepted.{accepted}
-use Rattle.job.specs.declared.read.Header.{Header}
+use Rattle.job.specs.declared.Header.{Header}
 use Rattle.accept.specs.Accepting.{Asked}
 use Rattle.accept.specs.AcceptLaws.{accepted-number, accepted-nodes, accepted-edges}
 

@@ -9,7 +9,7 @@ use lib.ListN.{length, take}
 use Rattle.graph.specs.Graph.{EdgeSet}
 use Rattle.graph.specs.Paths.{rooted}
 use Rattle.frame.specs.Job.{Job, graphOf, treeOf}
-use Rattle.tree.specs.Arrays.{arrayGraph, arrayTree, paths}
+use Rattle.paths.specs.Arrays.{arrayGraph, arrayTree, paths}
 use Rattle.accept.specs.Accepting.{Held}
 
 module _ (j : Job) (as₁ as₂ as₃ as₄ ts mask : List ℕ) (h : Held j as₁ as₂ as₃ as₄ ts mask) where
@@ -24,4 +24,5 @@ module _ (j : Job) (as₁ as₂ as₃ as₄ ts mask : List ℕ) (h : Held j as�
     pub paths-held : (count : ℕ) → count ≡ n - 1 → paths mask ≡ rooted (arrayGraph n m as₁ as₂) (take count ts) .path
     paths-held count pc =
         let same : j .nodes - 1 ≡ count = omega (arith, pc, pn) in
-        subst (λ (k : ℕ). paths mask ≡ rooted (arrayGraph k m as₁ as₂) (take count ts) .path) (sym pn) (subst (λ (k : ℕ). paths mask ≡ rooted (arrayGraph (j .nodes) m as₁ as₂) (take k ts) .path) same (h .walked .paths m))
+        subst (λ (k : ℕ). paths mask ≡ rooted (arrayGraph k m as₁ as₂) (take count ts) .path) (sym pn)
+        (subst (λ (k : ℕ). paths mask ≡ rooted (arrayGraph (j .nodes) m as₁ as₂) (take k ts) .path) same (h .walked .paths m))

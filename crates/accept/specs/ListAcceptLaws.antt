@@ -7,16 +7,16 @@ use lib.ListN.{length}
 use Rattle.loops.specs.Loop.{tabulate}
 use Rattle.loops.specs.TestLaws.{clash}
 use Rattle.loops.specs.GatherLaws.{tabulate-getD}
-use Rattle.frame.specs.Job.{Job, noEdge, jobFrame}
-use Rattle.frame.specs.Questions.{jobOf, refusal}
-use Rattle.frame.specs.Services.{small, listRefusal}
+use Rattle.frame.specs.Job.{Job, noLink, jobFrame}
+use Rattle.frame.specs.Questions.{jobOf, refusal, listRefusal}
+use Rattle.frame.specs.Services.{small}
 use Rattle.frame.specs.Lists.{list-as-frame, list-passed, list-read}
 use Rattle.frame.specs.Accepted.{list-accepted}
-use Rattle.job.specs.declared.read.Header.{Header}
-use Rattle.job.specs.Reading.{rows, header}
-use Rattle.job.specs.Writing.{jobAt}
-use Rattle.job.specs.WritingLaws.{rows-length}
-use Rattle.accept.specs.Accepting.{Held, treeRefusal, refusedHeader}
+use Rattle.job.specs.declared.Header.{Header}
+use Rattle.links.specs.Columns.{linksAt, jobAt}
+use Rattle.job.specs.Reading.{header, refusedHeader}
+use Rattle.links.specs.ColumnLaws.{rows-length}
+use Rattle.accept.specs.Accepting.{Held, treeRefusal}
 use Rattle.accept.specs.AcceptLaws.{refused-header}
 use Rattle.accept.specs.ListJobs.{ListAccepted, SomeHeld}
 
@@ -70,11 +70,11 @@ some-held nodes edges as₁ as₂ as₃ as₄ ts mask e hold =
       edges-are = sym (rows-length edges as₁ as₂ as₃ as₄);
     }
 
--- The rows of arrays that hold a job are its links.
-held-rows : (j : Job) (as₁ as₂ as₃ as₄ ts mask : List ℕ) → Held j as₁ as₂ as₃ as₄ ts mask → rows (length (j .links)) as₁ as₂ as₃ as₄ ≡ j .links
+-- The links of arrays that hold a job are its links.
+held-rows : (j : Job) (as₁ as₂ as₃ as₄ ts mask : List ℕ) → Held j as₁ as₂ as₃ as₄ ts mask → linksAt (length (j .links)) as₁ as₂ as₃ as₄ ≡ j .links
 held-rows j as₁ as₂ as₃ as₄ ts mask h =
     (λ i. tabulate (length (j .links)) (λ e. record { end₁ = h .end₁ i e; end₂ = h .end₂ i e; cost = h .cost i e; mark = h .mark i e })) ∙
-    tabulate-getD (j .links) noEdge
+    tabulate-getD (j .links) noLink
 
 pub held-job :
     (j : Job) (nodes edges : ℕ) (as₁ as₂ as₃ as₄ ts mask : List ℕ) →
@@ -83,5 +83,5 @@ pub held-job :
     edges ≡ length (j .links) →
     jobAt nodes edges as₁ as₂ as₃ as₄ ≡ j
 held-job j nodes edges as₁ as₂ as₃ as₄ ts mask h n m =
-    let links : rows edges as₁ as₂ as₃ as₄ ≡ j .links = ap (λ (k : ℕ). rows k as₁ as₂ as₃ as₄) m ∙ held-rows j as₁ as₂ as₃ as₄ ts mask h in
+    let links : linksAt edges as₁ as₂ as₃ as₄ ≡ j .links = ap (λ (k : ℕ). linksAt k as₁ as₂ as₃ as₄) m ∙ held-rows j as₁ as₂ as₃ as₄ ts mask h in
     λ i. record { nodes = n i; links = links i }

@@ -3,13 +3,14 @@ use Prim.Native.Nat.{ℕ}
 use mathlib.Core.Path.{_≡_, sym, ap, subst, _∙_}
 use mathlib.Core.Bool.{true, false}
 use mathlib.Core.List.{List, [], _∷_, flatMap}
-use Rattle.leb128.specs.Number.{Bytes, encode}
-use Rattle.leb128.specs.Laws.{bytes-nil, bytes-append, encode-bytes}
-use Rattle.frame.specs.Job.{Job, numberBytes, bytesOf, jobNumbers, jobFrame}
+use Rattle.number.specs.Number.{Bytes, encode}
+use Rattle.number.specs.Laws.{bytes-nil, bytes-append, encode-bytes}
+use Rattle.frame.specs.Job.{Job, bytesOf, jobNumbers, jobFrame}
+use Rattle.limits.specs.Limits.{numberBytes}
 use Rattle.frame.specs.Questions.{refusal}
 use Rattle.frame.specs.Services.{small}
 use Rattle.frame.specs.Accepted.{read-write6}
-use Rattle.job.specs.declared.read.Header.{Header}
+use Rattle.job.specs.declared.Header.{Header}
 use Rattle.job.specs.Reading.{header}
 use Rattle.accept.specs.Accepting.{Held, Asked, AskedSome}
 use Rattle.accept.specs.ListJobs.{ListAccepted, SomeHeld}

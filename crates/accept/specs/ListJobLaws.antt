@@ -11,32 +11,32 @@ use lib.Dec.{leb}
 use lib.ListN.{length, getD, take, length-map, List·getD-map}
 use lib.Seq.{ext-getD, getD-take, length-take-le}
 use borrow.Author.Tests.{le-leb, lt-leb}
-use Rattle.loops.specs.Loop.{allBelow}
+use Rattle.loops.specs.Below.{allBelow}
 use Rattle.loops.specs.TestLaws.{truth, all-same}
 use Rattle.loops.specs.GatherLaws.{getD-tabulate}
 use Rattle.records.specs.declared.Link.{Link}
-use Rattle.records.specs.Records.{zeroLink, firsts, filled, smallLink, allSmall}
+use Rattle.records.specs.Records.{zeroLink, firstLinks, columnPut, smallLink, allSmall}
 use Rattle.records.specs.RecordsLaws.{firsts-take, filled-length, filled-at, filled-past, all-small-whole}
-use Rattle.frame.specs.Job.{Edge, Job, noEdge, link, maxNodes, maxEdges, maxNumber, jobFrame}
-use Rattle.frame.specs.Questions.{ask, refusal}
-use Rattle.frame.specs.Services.{smallEdge, small, counted, listRefusal}
-use Rattle.job.specs.Reading.{rows}
-use Rattle.job.specs.Writing.{jobAt}
-use Rattle.job.specs.WritingLaws.{rows-length}
-use Rattle.job.specs.Held.{zeros, length-zeros, zero-at}
+use Rattle.frame.specs.Job.{JobLink, Job, noLink, link, jobFrame}
+use Rattle.limits.specs.Limits.{maxNodes, maxEdges, maxNumber}
+use Rattle.frame.specs.Questions.{ask, refusal, counted, listRefusal}
+use Rattle.frame.specs.Services.{smallNumbers, small}
+use Rattle.links.specs.Columns.{linksAt, jobAt}
+use Rattle.links.specs.ColumnLaws.{rows-length, zeros, length-zeros, zero-at}
 use Rattle.accept.specs.Accepting.{Empty}
 use Rattle.accept.specs.Lists.{ListHeld}
 use Rattle.accept.specs.ListAcceptLaws.{frame-number}
-use Rattle.accept.specs.ListJobs.{edgeOf, listJob, countRefusal, Given}
+use Rattle.accept.specs.ListJobs.{jobLink, listJob, countRefusal, Given}
 
 -- Question 1: the numbers of the job's links are small if the list's are.
 abbrev linksTest : Job → Bool
-linksTest j = allBelow (length (j .links)) λ e. smallEdge (link j e)
+linksTest j = allBelow (length (j .links)) λ e. smallNumbers (link j e)
 
 links-test : (nodes : ℕ) (ys : List Link) → length ys ≤ maxNumber → linksTest (listJob nodes ys) ≡ allSmall ys
 links-test nodes ys l =
-    ap (λ (n : ℕ). allBelow n λ e. smallEdge (link (listJob nodes ys) e)) (length-map ys edgeOf) ∙
-    all-same (length ys) (λ e. smallEdge (link (listJob nodes ys) e)) (λ e. smallLink (getD ys e zeroLink)) (λ e l. ap smallEdge (List·getD-map edgeOf ys e zeroLink)) ∙
+    ap (λ (n : ℕ). allBelow n λ e. smallNumbers (link (listJob nodes ys) e)) (length-map ys jobLink) ∙
+    all-same (length ys) (λ e. smallNumbers (link (listJob nodes ys) e)) (λ e. smallLink (getD ys e zeroLink))
+    (λ e l. ap smallNumbers (List·getD-map jobLink ys e zeroLink)) ∙
     sym (all-small-whole ys l)
 
 and-middle : (a b : Bool) → (a && false && b) ≡ false
@@ -72,8 +72,8 @@ module _ (nodes count : ℕ) (word : Bool) where
     count-passed y m = rw (le-leb nodes maxNumber k, le-leb count maxNumber l, y, le-leb count maxEdges m)
 
   -- If there is none, there are at most 256 links.
-  pub count-few : countRefusal nodes count word ≡ 0 → count ≤ 256
-  count-few z =
+  pub list-count-few : countRefusal nodes count word ≡ 0 → count ≤ 256
+  list-count-few z =
       elim (decLe count maxEdges) [
         | yes l ↦ l
         | no l ↦ absurd (many-nonzero (leb nodes maxNumber && leb count maxNumber && word) (rw (lt-leb count maxEdges (omega arith)) at z))
@@ -91,16 +91,16 @@ module _ (nodes : ℕ) (ys : List Link) where
   unfolding small
   word-small =
       elim (decLe (length ys) maxNumber) [
-        | yes l ↦ λ i. leb nodes maxNumber && leb (sym (length-map ys edgeOf) i) maxNumber && sym (links-test nodes ys l) i
+        | yes l ↦ λ i. leb nodes maxNumber && leb (sym (length-map ys jobLink) i) maxNumber && sym (links-test nodes ys l) i
         | no l ↦
             rw (lt-leb (length ys) maxNumber (omega arith)) (and-middle (leb nodes maxNumber) (allSmall ys)) ∙
-            sym (long-large (listJob nodes ys) (omega (arith, length-map ys edgeOf)))
+            sym (long-large (listJob nodes ys) (omega (arith, length-map ys jobLink)))
       ]
 
   -- More than 256 links whose numbers are small: question 2.
   many-two : small (listJob nodes ys) ≡ true → maxEdges < length ys → refusal (jobFrame (listJob nodes ys)) ≡ 2
   many-two y l =
-      let beyond : counted (listJob nodes ys) ≡ false = many-counted (listJob nodes ys) (omega (arith, length-map ys edgeOf)) in
+      let beyond : counted (listJob nodes ys) ≡ false = many-counted (listJob nodes ys) (omega (arith, length-map ys jobLink)) in
       let two : listRefusal (listJob nodes ys) ≡ 2 = rw (y, beyond) in
       frame-number (listJob nodes ys) y ∙ two
 
@@ -109,7 +109,7 @@ module _ (nodes : ℕ) (ys : List Link) where
   pub lent : (Refused : ℕ → Type 0) (Said : Job → Type 0)
       → (small (listJob nodes ys) ≡ false → Refused 1 → Said (listJob nodes ys))
       → (small (listJob nodes ys) ≡ true → refusal (jobFrame (listJob nodes ys)) ≡ 2 → Refused 2 → Said (listJob nodes ys))
-      → Given nodes (length ys) (allSmall ys) (firsts 256 ys) Refused Said → Said (listJob nodes ys)
+      → Given nodes (length ys) (allSmall ys) (firstLinks 256 ys) Refused Said → Said (listJob nodes ys)
   lent Refused Said large long g =
       ⊎-elim
       (λ (y : small (listJob nodes ys) ≡ true).
@@ -130,16 +130,16 @@ module _ (nodes : ℕ) (ys : List Link) where
 
 -- Columns of links put into arrays of zeros.
 module _ (count : ℕ) (links : List Link) (z₁ z₂ z₃ z₄ ts as₁ as₂ as₃ as₄ : List ℕ) (size : length links ≡ 256) (empty : Empty z₁ z₂ z₃ z₄ ts)
-    (so₁ : as₁ ≡ filled (λ l. l .end1) (min count 256) links z₁) (so₂ : as₂ ≡ filled (λ l. l .end2) (min count 256) links z₂)
-    (so₃ : as₃ ≡ filled (λ l. l .cost) (min count 256) links z₃) (so₄ : as₄ ≡ filled (λ l. l .mark) (min count 256) links z₄) where
+    (so₁ : as₁ ≡ columnPut (λ l. l .end1) (min count 256) links z₁) (so₂ : as₂ ≡ columnPut (λ l. l .end2) (min count 256) links z₂)
+    (so₃ : as₃ ≡ columnPut (λ l. l .cost) (min count 256) links z₃) (so₄ : as₄ ≡ columnPut (λ l. l .mark) (min count 256) links z₄) where
   zeros-size : {z : List ℕ} → z ≡ zeros 256 → length z ≡ 256
   zeros-size e = ap length e ∙ length-zeros 256
 
-  column-size : (f : Link → ℕ) {z xs : List ℕ} → z ≡ zeros 256 → xs ≡ filled f (min count 256) links z → length xs ≡ 256
+  column-size : (f : Link → ℕ) {z xs : List ℕ} → z ≡ zeros 256 → xs ≡ columnPut f (min count 256) links z → length xs ≡ 256
   column-size f {z} e so =
       ap length so ∙ filled-length f (min count 256) links z (omega (arith, size)) (omega (arith, zeros-size e)) ∙ zeros-size e
 
-  column-past : (f : Link → ℕ) {z xs : List ℕ} → z ≡ zeros 256 → xs ≡ filled f (min count 256) links z → (e : ℕ) → count ≤ e → getD xs e 0 ≡ 0
+  column-past : (f : Link → ℕ) {z xs : List ℕ} → z ≡ zeros 256 → xs ≡ columnPut f (min count 256) links z → (e : ℕ) → count ≤ e → getD xs e 0 ≡ 0
   column-past f {z} is so e l =
       ap (λ (r : List ℕ). getD r e 0) so ∙
       filled-past f (min count 256) links z e (omega (arith, size)) (omega (arith, zeros-size is)) (omega arith) ∙
@@ -162,16 +162,22 @@ module _ (count : ℕ) (links : List Link) (z₁ z₂ z₃ z₄ ts as₁ as₂ a
 
   -- The arrays hold the job of the first so many links.
   module _ (few : count ≤ 256) where
-    column-is : (f : Link → ℕ) {z xs : List ℕ} → z ≡ zeros 256 → xs ≡ filled f (min count 256) links z → (e : ℕ) → e < count → getD xs e 0 ≡ f (getD (take count links) e zeroLink)
+    column-is :
+        (f : Link → ℕ) {z xs : List ℕ} →
+        z ≡ zeros 256 →
+        xs ≡ columnPut f (min count 256) links z →
+        (e : ℕ) →
+        e < count →
+        getD xs e 0 ≡ f (getD (take count links) e zeroLink)
     column-is f {z} is so e k =
         ap (λ (r : List ℕ). getD r e 0) so ∙
         filled-at f (min count 256) links z e (omega (arith, size)) (omega (arith, zeros-size is)) (omega arith) ∙
         ap f (sym (getD-take count links e zeroLink k))
 
-    row : ℕ → Edge
+    row : ℕ → JobLink
     row e = record { end₁ = getD as₁ e 0; end₂ = getD as₂ e 0; cost = getD as₃ e 0; mark = getD as₄ e 0 }
 
-    row-is : (e : ℕ) → e < count → row e ≡ edgeOf (getD (take count links) e zeroLink)
+    row-is : (e : ℕ) → e < count → row e ≡ jobLink (getD (take count links) e zeroLink)
     unfolding row
     row-is e k i =
         record {
@@ -185,8 +191,9 @@ module _ (count : ℕ) (links : List Link) (z₁ z₂ z₃ z₄ ts as₁ as₂ a
     unfolding row
     columns-job nodes =
         let taken : length (take count links) ≡ count = length-take-le count links (omega (arith, size)) in
-        ap (λ (ls : List Edge). record { nodes = nodes; links = ls })
-        (ext-getD noEdge (rows count as₁ as₂ as₃ as₄) (map edgeOf (take count links)) (rows-length count as₁ as₂ as₃ as₄ ∙ sym (length-map (take count links) edgeOf ∙ taken))
+        ap (λ (ls : List JobLink). record { nodes = nodes; links = ls })
+        (ext-getD noLink (linksAt count as₁ as₂ as₃ as₄) (map jobLink (take count links))
+        (rows-length count as₁ as₂ as₃ as₄ ∙ sym (length-map (take count links) jobLink ∙ taken))
         λ e k.
         let below : e < count = omega (arith, rows-length count as₁ as₂ as₃ as₄) in
-        getD-tabulate row count e noEdge below ∙ row-is e below ∙ sym (List·getD-map edgeOf (take count links) e zeroLink))
+        getD-tabulate row count e noLink below ∙ row-is e below ∙ sym (List·getD-map jobLink (take count links) e zeroLink))

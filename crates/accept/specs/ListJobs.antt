@@ -8,19 +8,21 @@ use mathlib.Core.List.{List, map}
 use lib.Dec.{leb}
 use lib.ListN.{length, take}
 use Rattle.records.specs.declared.Link.{Link}
-use Rattle.frame.specs.Job.{Edge, Job, maxEdges, maxNumber, jobFrame}
+use Rattle.frame.specs.Job.{JobLink, Job, jobFrame}
+use Rattle.limits.specs.Limits.{maxEdges, maxNumber}
 use Rattle.frame.specs.Questions.{jobOf, ask}
 use Rattle.frame.specs.Services.{small}
 use Rattle.frame.specs.Meaning.{Accepted}
-use Rattle.job.specs.declared.read.Header.{Header}
-use Rattle.accept.specs.Accepting.{Held, acceptedHeader, refusedHeader}
+use Rattle.job.specs.declared.Header.{Header}
+use Rattle.accept.specs.Accepting.{Held, acceptedHeader}
+use Rattle.job.specs.Reading.{refusedHeader}
 
 -- The job of a list of records.
-abbrev pub edgeOf : Link → Edge
-edgeOf l = record { end₁ = l .end1; end₂ = l .end2; cost = l .cost; mark = l .mark }
+abbrev pub jobLink : Link → JobLink
+jobLink l = record { end₁ = l .end1; end₂ = l .end2; cost = l .cost; mark = l .mark }
 
 abbrev pub listJob : ℕ → List Link → Job
-listJob nodes ys = record { nodes = nodes; links = map edgeOf ys }
+listJob nodes ys = record { nodes = nodes; links = map jobLink ys }
 
 -- The refusal that is known before a link is looked at: 1 if a count is large or if the word on the links' numbers is that one
 -- is; 2 if there are more than 256 links; else 0.

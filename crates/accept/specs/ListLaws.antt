@@ -7,13 +7,12 @@ use mathlib.Core.Bool.{Bool, true, false}
 use mathlib.Core.List.{List}
 use lib.ListN.{getD, List·getD-eq-default}
 use Rattle.loops.specs.GatherLaws.{getD-tabulate}
-use Rattle.frame.specs.Job.{Edge, Job, noEdge, link}
-use Rattle.frame.specs.Questions.{ask, question4, question5}
-use Rattle.frame.specs.Services.{small, counted, listFormRefusal, listRefusal}
-use Rattle.frame.specs.Lists.{listed, list-passed, small-job, counted-limits}
-use Rattle.job.specs.Reading.{rows}
-use Rattle.job.specs.Writing.{jobAt}
-use Rattle.job.specs.WritingLaws.{rows-length}
+use Rattle.frame.specs.Job.{JobLink, Job, noLink, link}
+use Rattle.frame.specs.Questions.{ask, question4, question5, counted, listFormRefusal, listRefusal}
+use Rattle.frame.specs.Services.{small}
+use Rattle.frame.specs.Lists.{listed, small-job, counted-limits}
+use Rattle.links.specs.Columns.{linksAt, jobAt}
+use Rattle.links.specs.ColumnLaws.{rows-length}
 use Rattle.accept.specs.Lists.{ListHeld}
 use Rattle.accept.specs.Accepting.{Stored, treeRefusal}
 
@@ -42,17 +41,22 @@ pub list-tree : (j : Job) → listFormRefusal j ≡ 0 → listRefusal j ≡ tree
 list-tree j z = chain-passed (small j) (counted j) (question4 j) (question5 j) (treeRefusal j) z
 
 module _ (nodes edges : ℕ) (as₁ as₂ as₃ as₄ : List ℕ) (h : ListHeld edges as₁ as₂ as₃ as₄) where
-  row : ℕ → Edge
+  row : ℕ → JobLink
   row e = record { end₁ = getD as₁ e 0; end₂ = getD as₂ e 0; cost = getD as₃ e 0; mark = getD as₄ e 0 }
 
   -- At every place the arrays say what the list says.
-  said : (f : Edge → ℕ) → f noEdge ≡ 0 → ((e : ℕ) → edges ≤ e → f (row e) ≡ 0) → _≡_ {A = ℕ → ℕ} (λ e. f (row e)) (λ e. f (link (jobAt nodes edges as₁ as₂ as₃ as₄) e))
+  said :
+      (f : JobLink → ℕ) →
+      f noLink ≡ 0 →
+      ((e : ℕ) → edges ≤ e → f (row e) ≡ 0) →
+      _≡_ {A = ℕ → ℕ} (λ e. f (row e)) (λ e. f (link (jobAt nodes edges as₁ as₂ as₃ as₄) e))
   unfolding row
   said f z past =
       fun-ext λ e.
       elim (decLt e edges) [
-        | yes l ↦ sym (ap f (getD-tabulate row edges e noEdge l))
-        | no l ↦ past e (omega arith) ∙ sym (ap f (List·getD-eq-default (rows edges as₁ as₂ as₃ as₄) noEdge (omega (arith, rows-length edges as₁ as₂ as₃ as₄))) ∙ z)
+        | yes l ↦ sym (ap f (getD-tabulate row edges e noLink l))
+        | no l ↦ past e (omega arith) ∙ sym (ap f
+            (List·getD-eq-default (linksAt edges as₁ as₂ as₃ as₄) noLink (omega (arith, rows-length edges as₁ as₂ as₃ as₄))) ∙ z)
       ]
 
   pub list-stored : listFormRefusal (jobAt nodes edges as₁ as₂ as₃ as₄) ≡ 0 → Stored (jobAt nodes edges as₁ as₂ as₃ as₄) as₁ as₂ as₃ as₄
@@ -61,10 +65,10 @@ module _ (nodes edges : ℕ) (as₁ as₂ as₃ as₄ : List ℕ) (h : ListHeld 
       let good = listed (jobAt nodes edges as₁ as₂ as₃ as₄) z in
       let limits = counted-limits (jobAt nodes edges as₁ as₂ as₃ as₄) (good .counted) in
       record {
-        end₁ = said (λ (l : Edge). l .end₁) refl (h .end₁);
-        end₂ = said (λ (l : Edge). l .end₂) refl (h .end₂);
-        cost = said (λ (l : Edge). l .cost) refl (h .cost);
-        mark = said (λ (l : Edge). l .mark) refl (h .mark);
+        end₁ = said (λ (l : JobLink). l .end₁) refl (h .end₁);
+        end₂ = said (λ (l : JobLink). l .end₂) refl (h .end₂);
+        cost = said (λ (l : JobLink). l .cost) refl (h .cost);
+        mark = said (λ (l : JobLink). l .mark) refl (h .mark);
         places = h .places .cost;
         nodes-few = limits .1;
         edges-few = limits .2;
@@ -74,9 +78,3 @@ module _ (nodes edges : ℕ) (as₁ as₂ as₃ as₄ : List ℕ) (h : ListHeld 
 
   pub list-few : listFormRefusal (jobAt nodes edges as₁ as₂ as₃ as₄) ≡ 0 → edges ≤ 256
   list-few z = omega (arith, list-stored z .edges-few, rows-length edges as₁ as₂ as₃ as₄)
-
--- A list that passes questions 1 to 6 has at most 256 links.
-pub list-accepted-few : (nodes edges : ℕ) (as₁ as₂ as₃ as₄ : List ℕ) → listRefusal (jobAt nodes edges as₁ as₂ as₃ as₄) ≡ 0 → edges ≤ 256
-list-accepted-few nodes edges as₁ as₂ as₃ as₄ z =
-    let j = jobAt nodes edges as₁ as₂ as₃ as₄ in
-    omega (arith, counted-limits j (list-passed treeRefusal j z .0 .counted), rows-length edges as₁ as₂ as₃ as₄)

@@ -3,7 +3,7 @@ use Prim.Native.Nat.{ℕ, _≤_}
 use mathlib.Core.Path.{_≡_}
 use mathlib.Core.List.{List}
 use lib.ListN.{getD}
-use Rattle.job.specs.Reading.{Places}
+use Rattle.links.specs.Columns.{Places}
 
 pub record ListHeld (edges : ℕ) (as₁ as₂ as₃ as₄ : List ℕ) : Type 0 where
   pub places : Places as₁ as₂ as₃ as₄

@@ -3,25 +3,18 @@
 ghost use mathlib.Core.Path.{_≡_};
 ghost use lib.ListN.{length};
 ghost use Rattle.frame.specs.Job.{Job};
-ghost use Rattle.frame.specs.Questions.{jobOf};
-ghost use Rattle.frame.specs.Services.{listRefusal};
-ghost use Rattle.job.specs.Writing.{jobAt};
-ghost use Rattle.accept.specs.Accepting.{Empty, StoredAs, Held, treeRefusal, acceptedHeader, refusedHeader};
+ghost use Rattle.frame.specs.Questions.{jobOf, listRefusal};
+ghost use Rattle.links.specs.Columns.{jobAt};
+ghost use Rattle.accept.specs.Accepting.{Empty, StoredAs, Held, treeRefusal, acceptedHeader};
+ghost use Rattle.job.specs.Reading.{refusedHeader};
 ghost use Rattle.accept.specs.Lists.{ListHeld};
 ghost use Rattle.accept.specs.ListJobs.{countRefusal, Given, ListAccepted, SomeHeld};
-use job::read::Header;
+use job::Header;
+use job::refused;
+use limits::MOST_COUNT;
+use limits::MOST_LENGTH;
+use limits::MOST_NUMBER;
 use records::Link;
-
-// A refusal has no counts.
-pub fn refused(refusal: u32) -> Header
-    ensures { λ r. ⌜ r ≡ refusedHeader refusal ⌝ }
-{
-    Header {
-        refusal: refusal,
-        nodes: 0,
-        edges: 0,
-    }
-}
 
 // Question 6 of a job in arrays that has passed the others: 6, or 0, and then the tree ranks and paths are found.
 fn tree_refusal(
@@ -36,7 +29,8 @@ fn tree_refusal(
 ) -> u32
     requires { ⌜ ((j : Job) × StoredAs j nodes edges (now end1) (now end2) (now cost) (now mark)) ⌝ }
     requires { ⌜ length (now ts) ≡ 256 ⌝ }
-    ensures refusal { λ r. ⌜ ((j : Job) → StoredAs j nodes edges (now (end1 .entry)) (now (end2 .entry)) (now (cost .entry)) (now (mark .entry)) → r ≡ treeRefusal j) ⌝ }
+    ensures refusal { λ r. ⌜ ((j : Job) → StoredAs j nodes edges (now (end1 .entry)) (now (end2 .entry)) (now (cost .entry)) (now (mark .entry)) → r
+        ≡ treeRefusal j) ⌝ }
     ensures held { λ r. ⌜ ((j : Job) → StoredAs j nodes edges (now (end1 .entry)) (now (end2 .entry)) (now (cost .entry)) (now (mark .entry)) → r ≡ 0
         → Held j (now (end1 .entry)) (now (end2 .entry)) (now (cost .entry)) (now (mark .entry)) (now (ts .exit)) (now (mask .exit))) ⌝ }
 {
@@ -44,7 +38,7 @@ fn tree_refusal(
     if count + 1 != nodes as usize {
         return 6;
     }
-    if !tree::question6(nodes, ts, count, end1, end2, mask) {
+    if !paths::question6(nodes, ts, count, end1, end2, mask) {
         return 6;
     }
     0
@@ -62,9 +56,10 @@ pub fn accept(
 ) -> Header
     requires { ⌜ Empty (now end1) (now end2) (now cost) (now mark) (now ts) ⌝ }
     ensures header { λ r. ⌜ r ≡ acceptedHeader (now (frame .entry)) ⌝ }
-    ensures job { λ r. ⌜ (r .refusal ≡ 0 → Held (jobOf (now (frame .entry))) (now (end1 .exit)) (now (end2 .exit)) (now (cost .exit)) (now (mark .exit)) (now (ts .exit)) (now (mask .exit))) ⌝ }
+    ensures job { λ r. ⌜ (r .refusal ≡ 0 → Held (jobOf (now (frame .entry))) (now (end1 .exit)) (now (end2 .exit)) (now (cost .exit)) (now (mark .exit))
+        (now (ts .exit)) (now (mask .exit))) ⌝ }
 {
-    let header = job::read::read_job(frame, end1, end2, cost, mark);
+    let header = job::load_job(frame, end1, end2, cost, mark);
     let refusal = header.refusal;
     if refusal != 0 {
         return header;
@@ -95,7 +90,7 @@ pub fn accept_list(
     ensures held { λ r. ⌜ (r ≡ 0 → Held (jobAt nodes edges (now (end1 .entry)) (now (end2 .entry)) (now (cost .entry)) (now (mark .entry)))
         (now (end1 .entry)) (now (end2 .entry)) (now (cost .entry)) (now (mark .entry)) (now (ts .exit)) (now (mask .exit))) ⌝ }
 {
-    let refusal = job::write::check_list(nodes, edges, end1, end2, cost, mark);
+    let refusal = links::check_list(nodes, edges, end1, end2, cost, mark);
     if refusal != 0 {
         return refusal;
     }
@@ -106,16 +101,16 @@ pub fn accept_list(
 fn count_refusal(nodes: u32, count: usize, small: bool) -> u32
     ensures { λ r. ⌜ r ≡ countRefusal nodes count small ⌝ }
 {
-    if 16383 < nodes {
+    if MOST_NUMBER < nodes {
         return 1;
     }
-    if 16383 < count {
+    if MOST_LENGTH < count {
         return 1;
     }
     if !small {
         return 1;
     }
-    if 256 < count {
+    if MOST_COUNT < count {
         return 2;
     }
     0
@@ -136,8 +131,10 @@ pub fn accept_links(
     mask: &mut [u64; 64],
 ) -> Header
     requires { ⌜ Empty (now end1) (now end2) (now cost) (now mark) (now ts) ⌝ }
-    ensures list { λ r. ⌜ Given nodes count small links (λ n. r ≡ refusedHeader n) (λ j. ListAccepted j r (now (end1 .exit)) (now (end2 .exit)) (now (cost .exit)) (now (mark .exit)) (now (ts .exit)) (now (mask .exit))) ⌝ }
-    ensures job { λ r. ⌜ (r .refusal ≡ 0 → SomeHeld (r .nodes) (r .edges) (now (end1 .exit)) (now (end2 .exit)) (now (cost .exit)) (now (mark .exit)) (now (ts .exit)) (now (mask .exit))) ⌝ }
+    ensures list { λ r. ⌜ Given nodes count small links (λ n. r ≡ refusedHeader n)
+        (λ j. ListAccepted j r (now (end1 .exit)) (now (end2 .exit)) (now (cost .exit)) (now (mark .exit)) (now (ts .exit)) (now (mask .exit))) ⌝ }
+    ensures job { λ r. ⌜ (r .refusal ≡ 0 → SomeHeld (r .nodes) (r .edges) (now (end1 .exit)) (now (end2 .exit)) (now (cost .exit)) (now (mark .exit))
+        (now (ts .exit)) (now (mask .exit))) ⌝ }
 {
     let early = count_refusal(nodes, count, small);
     if early != 0 {

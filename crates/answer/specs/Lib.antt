@@ -1,3 +1,3 @@
--- The answer that arrays hold, and laws that tie it to the answer frame.
+-- The list of an answer's pairs, and laws that tie it to the model's answer.
 pub mod Contents
 pub mod ContentsLaws

@@ -9,30 +9,34 @@ use mathlib.Core.Bool.{true, false}
 use mathlib.Core.List.{List, [], _∷_, _++_}
 use mathlib.Core.Option.{Option, some, none}
 use lib.ListN.{length, getD, take, drop, length-append, length-drop}
-use lib.Seq.{sets, sets-eq, length-sets, length-take-le, drop-cons}
+use lib.Seq.{sets, sets-eq, length-sets, length-take-le, drop-cons, take-all}
 use borrow.Author.Tests.{eq-eqb, ne-eqb, le-leb, lt-leb}
-use Rattle.loops.specs.Loop.{gather, tabulate}
+use Rattle.loops.specs.Loop.{tabulate}
 use Rattle.loops.specs.TestLaws.{clash}
 use Rattle.loops.specs.GatherLaws.{length-tabulate, tabulate-getD}
-use Rattle.leb128.specs.Number.{Bytes, decode, readAt}
-use Rattle.leb128.specs.Number.Decoded.{number}
+use Rattle.number.specs.Number.{Bytes, decode}
+use Rattle.leb128.specs.Positions.{readAt, located-value, located-refused}
+use Rattle.number.specs.Number.Decoded.{number}
 use Rattle.leb128.specs.declared.Number.the-variants as Read
-use Rattle.leb128.specs.Laws.{decode-size, bytes-drop, located-value, located-refused}
+use Rattle.number.specs.Laws.{decode-size, bytes-drop}
 use Rattle.optimum.specs.Optimum.{Pair, Answer}
-use Rattle.frame.specs.Job.{stepBytes, bytesOf}
+use Rattle.limits.specs.Limits.{stepBytes}
+use Rattle.frame.specs.Job.{bytesOf}
 use Rattle.frame.specs.Questions.{numbers}
 use Rattle.frame.specs.Answers.{pairFrom, pairsFrom, answerFrom, answerBehind, readAnswer}
 use Rattle.frame.specs.Meaning.{Divides}
 use Rattle.frame.specs.Division.{division}
-use Rattle.job.specs.declared.read.Taken.{Taken}
-use Rattle.job.specs.declared.read.Numbers.the-variants.{Count, Refused}
-use Rattle.job.specs.Reading.{takenAt, countFrom}
-use Rattle.job.specs.CountLaws.{count-some, count-none}
-use Rattle.job.specs.LoadLaws.{Next, next-number}
-use Rattle.job.specs.FormLaws.{parts-join, drop-divides, sets-at}
+use Rattle.codec.specs.declared.Taken.{Taken}
+use Rattle.division.specs.declared.Numbers.the-variants.{Count, Refused}
+use Rattle.codec.specs.Numbers.{takenAt, numbersAt, Loaded, loadedAt, loaded}
+use Rattle.codec.specs.ListLaws.{gather-same, load-numbers}
+use Rattle.codec.specs.Held.{pairsAt, answerAt}
+use Rattle.division.specs.Counting.{countFrom}
+use Rattle.division.specs.CountingLaws.{counted-some, counted-none}
+use Rattle.codec.specs.NumberLaws.{Next, next-number, parts-join, drop-divides}
+use Rattle.links.specs.ColumnLaws.{sets-at}
 use Rattle.answer_read.specs.declared.Contents.{Contents}
-use Rattle.answer_read.specs.Reading.{noContents, contents, Costs, costsAt, loadCosts, Pairs, pairsAt, loadPairs, pairIn, answerIn, few, Behind}
-use Rattle.answer_read.specs.LoadLaws.{load-costs, load-pairs, evens, odds, evens-at, odds-at, length-evens, length-odds}
+use Rattle.answer_read.specs.Reading.{noContents, contents, few, Behind}
 
 -- ---- the steps
 
@@ -52,11 +56,6 @@ answer-unread m s e = rw (located-refused 0 (decode stepBytes s) e)
 
 -- ---- the numbers behind them
 
-tabulate-same : {A : Type 0} (n : ℕ) (f g : ℕ → A) → ((i : ℕ) → i < n → f i ≡ g i) → tabulate n f ≡ tabulate n g
-unfolding gather
-tabulate-same zero f g h = refl
-tabulate-same (suc n) f g h = rw (tabulate-same n f g (λ i l. h i (omega arith)), h n (omega arith))
-
 -- A list put over the front of another leaves what is behind it.
 behind-front : (xs l : List ℕ) (k : ℕ) → length xs ≤ length l → length xs ≤ k → getD (xs ++ drop (length xs) l) k 0 ≡ getD l k 0
 behind-front [] l k h n = refl
@@ -75,20 +74,20 @@ module _ (m : ℕ) (s : List ℕ) (h : Bytes s) (v next : ℕ) (e : readAt stepB
 
   pub answer-undivided : countFrom 0 (numbers part) ≡ Refused → few (readAnswer m s) ≡ none
   unfolding few answerFrom
-  answer-undivided q = answer-behind ∙ rw (count-none (numbers part) q)
+  answer-undivided q = answer-behind ∙ rw (counted-none (numbers part) q)
 
   -- The part divides into `total` numbers.
   module _ (total : ℕ) (q : countFrom 0 (numbers part) ≡ Count total) where
     ns : List ℕ
-    ns = count-some (numbers part) total q .0
+    ns = counted-some (numbers part) total q .0
 
     divided : numbers part ≡ some ns
     unfolding ns
-    divided = count-some (numbers part) total q .1
+    divided = counted-some (numbers part) total q .1
 
     size : length ns ≡ total
     unfolding ns
-    size = count-some (numbers part) total q .2
+    size = counted-some (numbers part) total q .2
 
     divides : Divides part ns
     divides = division part ns (rw behind (bytes-drop next s h)) .0 divided
@@ -101,16 +100,16 @@ module _ (m : ℕ) (s : List ℕ) (h : Bytes s) (v next : ℕ) (e : readAt stepB
     unfolding answerBehind answerFrom
     answer-size n = rw (steps-read s v next e, ← behind, divided, eq-eqb (length ns) (m + 1 + 2 * getD ns m 0) n)
 
-    pub answer-short : total ≤ m → few (readAnswer m s) ≡ none
-    answer-short l = answer-wrong-size (λ n. omega (arith, size))
+    pub read-short : total ≤ m → few (readAnswer m s) ≡ none
+    read-short l = answer-wrong-size (λ n. omega (arith, size))
 
     -- The costs are in their array, and the number behind them has been read.
-    module _ (long : m < total) (at : ℕ) (cs cs′ : List ℕ) (loaded : costsAt at cs′ ≡ loadCosts part m cs) (c : Taken) (p : c ≡ takenAt part at) where
-      costs-read : costsAt at cs′ ≡ costsAt (0 + length (bytesOf (take m ns))) (sets cs 0 (take m ns))
-      costs-read = loaded ∙ load-costs part m 0 0 ns cs (omega arith) divides (omega (arith, size))
+    module _ (long : m < total) (at : ℕ) (cs cs′ : List ℕ) (read-costs : loadedAt at cs′ ≡ loaded part 0 m cs) (c : Taken) (p : c ≡ takenAt part at) where
+      costs-read : loadedAt at cs′ ≡ loadedAt (0 + length (bytesOf (take m ns))) (sets cs 0 (take m ns))
+      costs-read = read-costs ∙ load-numbers part m 0 0 ns cs (omega arith) divides (omega (arith, size))
 
       at-pairs : at ≡ length (bytesOf (take m ns))
-      at-pairs = omega (arith, ap (λ (l : Costs). l .at) costs-read)
+      at-pairs = omega (arith, ap (λ (l : Loaded). l .next) costs-read)
 
       after : Next part (drop (suc m) ns) (getD ns m 0) at
       after =
@@ -135,95 +134,98 @@ module _ (m : ℕ) (s : List ℕ) (h : Bytes s) (v next : ℕ) (e : readAt stepB
       answer-wrong n = answer-wrong-size (λ k. n (omega (arith, size, count-read)))
 
       -- The pairs are in theirs.
-      module _ (right : total ≡ m + 1 + 2 * c .value) (most : c .value ≤ 64) (last : ℕ) (ts ts′ ss ss′ : List ℕ)
-          (pairs : pairsAt last ts′ ss′ ≡ loadPairs part (c .next) (c .value) ts ss)
-          (room : length cs ≡ 256) (room-t : length ts ≡ 64) (room-s : length ss ≡ 64) (edges : m ≤ 256) where
+      module _ (right : total ≡ m + 1 + 2 * c .value) (most : c .value ≤ 64) (last : ℕ) (ps ps′ : List ℕ)
+          (read-pairs : loadedAt last ps′ ≡ loaded part (c .next) (2 * c .value) ps)
+          (room : length cs ≡ 256) (room-pairs : length ps ≡ 128) (edges : m ≤ 256) where
         whole : length ns ≡ m + 1 + 2 * getD ns m 0
         whole = omega (arith, size, count-read)
 
-        two : length (drop (suc m) ns) ≡ 2 * c .value
+        rest : List ℕ
+        rest = drop (suc m) ns
+
+        two : length rest ≡ 2 * c .value
+        unfolding rest
         two = omega (arith, whole, count-read, length-drop (suc m) ns)
 
         next-read : c .next ≡ after .next
         next-read = ap (λ (t : Taken). t .next) (p ∙ after .here)
 
-        pairs-read : pairsAt last ts′ ss′ ≡ pairsAt (length part) (sets ts 0 (evens (drop (suc m) ns))) (sets ss 0 (odds (drop (suc m) ns)))
-        pairs-read =
-            pairs
-            ∙ load-pairs part (c .value) 0 (drop (suc m) ns) (pairsAt (c .next) ts ss) two (omega (arith, next-read, after .within))
-            (rw next-read (after .rest))
+        new-costs : cs′ ≡ sets cs 0 (take m ns)
+        new-costs = ap (λ (l : Loaded). l .values) costs-read
 
-        same-costs : tabulate m (λ e. getD cs′ e 0) ≡ take m ns
+        new-pairs : ps′ ≡ sets ps 0 rest
+        unfolding rest
+        new-pairs =
+            ap (λ (l : Loaded). l .values)
+            (read-pairs
+            ∙ load-numbers part (2 * c .value) 0 (c .next) rest ps (omega (arith, next-read, after .within)) (rw next-read (after .rest)) (omega (arith, two)))
+            ∙ ap (sets ps 0) (take-all (2 * c .value) rest (omega (arith, two)))
+
+        same-costs : numbersAt m cs′ ≡ take m ns
         same-costs =
             let taken : length (take m ns) ≡ m = length-take-le m ns (omega (arith, size)) in
-            tabulate-same m (λ e. getD cs′ e 0) (λ e. getD (take m ns) e 0)
-            (λ e l. ap (λ (x : Costs). getD (x .costs) e 0) costs-read ∙ sets-at (take m ns) cs e (omega arith) (omega arith))
+            gather-same m (λ e. getD cs′ e 0 ∷ []) (λ e. getD (take m ns) e 0 ∷ [])
+            (λ e l. ap (λ (x : ℕ). x ∷ []) (ap (λ (xs : List ℕ). getD xs e 0) new-costs ∙ sets-at (take m ns) cs e (omega arith) (omega arith)))
             ∙ rw taken at (tabulate-getD (take m ns) 0)
 
-        same-pair : (i : ℕ) → i < c .value → pairIn ts′ ss′ i ≡ pairFrom (drop (suc m) ns) i
-        same-pair i l =
-            let t : getD ts′ i 0 ≡ getD (drop (suc m) ns) (2 * i) 0 =
-            ap (λ (x : Pairs). getD (x .trees) i 0) pairs-read
-            ∙ sets-at (evens (drop (suc m) ns)) ts i (omega (arith, length-evens (c .value) (drop (suc m) ns) two)) (omega (arith, length-evens (c .value) (drop (suc m) ns) two))
-            ∙ evens-at (c .value) (drop (suc m) ns) i two l in
-            let u : getD ss′ i 0 ≡ getD (drop (suc m) ns) (2 * i + 1) 0 =
-            ap (λ (x : Pairs). getD (x .spares) i 0) pairs-read
-            ∙ sets-at (odds (drop (suc m) ns)) ss i (omega (arith, length-odds (c .value) (drop (suc m) ns) two)) (omega (arith, length-odds (c .value) (drop (suc m) ns) two))
-            ∙ odds-at (c .value) (drop (suc m) ns) i two l in
-            rw (t, u)
+        pair-at : (k : ℕ) → k < 2 * c .value → getD ps′ k 0 ≡ getD rest k 0
+        pair-at k l = ap (λ (xs : List ℕ). getD xs k 0) new-pairs ∙ sets-at rest ps k (omega (arith, two)) (omega (arith, two))
 
-        same-pairs : tabulate (c .value) (pairIn ts′ ss′) ≡ pairsFrom m ns
-        same-pairs = tabulate-same (c .value) _ _ same-pair ∙ ap (λ (n : ℕ). tabulate n (pairFrom (drop (suc m) ns))) count-read
+        same-pairs : pairsAt (c .value) ps′ ≡ pairsFrom m ns
+        unfolding rest
+        same-pairs =
+            gather-same (c .value) (λ i. pairFrom ps′ i ∷ []) (λ i. pairFrom rest i ∷ [])
+            (λ i l. ap₂ (λ (t u : ℕ). record { tree = t; spare = u } ∷ []) (pair-at (2 * i) (omega arith)) (pair-at (2 * i + 1) (omega arith)))
+            ∙ ap (λ (n : ℕ). tabulate n (pairFrom rest)) count-read
 
-        pub answer-read : contents m (record { ok = true; steps = v; count = c .value }) cs′ ts′ ss′ ≡ few (readAnswer m s)
+        pub answer-read : contents m (record { ok = true; steps = v; count = c .value }) cs′ ps′ ≡ few (readAnswer m s)
         unfolding few contents
         answer-read =
-            ap₂ (λ (xs : List ℕ) (ps : List Pair). some (record { steps = v; costs = xs; pairs = ps })) same-costs same-pairs
+            ap₂ (λ (xs : List ℕ) (qs : List Pair). some (record { steps = v; costs = xs; pairs = qs })) same-costs same-pairs
             ∙ sym (ap few (answer-size whole)
             ∙ rw (length-tabulate (pairFrom (drop (suc m) ns)) (getD ns m 0), le-leb (getD ns m 0) 64 (omega (arith, count-read))))
 
-        pub answer-kept : Behind m (c .value) cs cs′ ts ts′ ss ss′
+        pub answer-kept : Behind m (c .value) cs cs′ ps ps′
         answer-kept =
             let taken : length (take m ns) ≡ m = length-take-le m ns (omega (arith, size)) in
-            let firsts = length-evens (c .value) (drop (suc m) ns) two in
-            let seconds = length-odds (c .value) (drop (suc m) ns) two in
-            let new-costs = ap (λ (x : Costs). x .costs) costs-read in
-            let new-trees = ap (λ (x : Pairs). x .trees) pairs-read in
-            let new-spares = ap (λ (x : Pairs). x .spares) pairs-read in
             record {
               places = record {
                 costs = ap length new-costs ∙ length-sets cs 0 (take m ns) ∙ room;
-                trees = ap length new-trees ∙ length-sets ts 0 (evens (drop (suc m) ns)) ∙ room-t;
-                spares = ap length new-spares ∙ length-sets ss 0 (odds (drop (suc m) ns)) ∙ room-s;
+                pairs = ap length new-pairs ∙ length-sets ps 0 rest ∙ room-pairs;
               };
-              costs = λ e l. ap (λ (x : List ℕ). getD x e 0) new-costs ∙ sets-past (take m ns) cs e (omega (arith, taken, room, edges)) (omega (arith, taken, l));
-              trees = λ i l. ap (λ (x : List ℕ). getD x i 0) new-trees ∙ sets-past (evens (drop (suc m) ns)) ts i (omega (arith, firsts, room-t, most)) (omega (arith, firsts, l));
-              spares = λ i l. ap (λ (x : List ℕ). getD x i 0) new-spares ∙ sets-past (odds (drop (suc m) ns)) ss i (omega (arith, seconds, room-s, most)) (omega (arith, seconds, l));
+              costs =
+                  λ e l. ap (λ (x : List ℕ). getD x e 0) new-costs ∙ sets-past (take m ns) cs e (omega (arith, taken, room, edges)) (omega (arith, taken, l));
+              pairs =
+                  λ i l. ap (λ (x : List ℕ). getD x i 0) new-pairs ∙ sets-past rest ps i (omega (arith, two, room-pairs, most)) (omega (arith, two, l));
             }
 
 -- A frame that is not read.
-pub no-answer : (m : ℕ) (r : Contents) (cs ts ss : List ℕ) (o : Option Answer) {Kept : Type 0} → r ≡ noContents → o ≡ none → (contents m r cs ts ss ≡ o) × ((r .count ≤ 64) × (r .ok ≡ true → Kept))
+pub no-answer :
+    (m : ℕ) (r : Contents) (cs ps : List ℕ) (o : Option Answer) {Kept : Type 0} →
+    r ≡ noContents →
+    o ≡ none →
+    (contents m r cs ps ≡ o) × ((r .count ≤ 64) × (r .ok ≡ true → Kept))
 unfolding contents
-no-answer m r cs ts ss o e z = (rw (e, z) refl, (rw e (omega arith), λ y. clash y (ap (λ (c : Contents). c .ok) e)))
+no-answer m r cs ps o e z = (rw (e, z) refl, (rw e (omega arith), λ y. clash y (ap (λ (c : Contents). c .ok) e)))
 
 -- What the reader's result says of the frame's content: it is the answer in the arrays, or there are too many pairs.
-module _ (m : ℕ) (r : Contents) (cs ts ss : List ℕ) where
-  pub found-answer : (o : Option Answer) → contents m r cs ts ss ≡ few o → r .ok ≡ true → o ≡ some (answerIn m (r .steps) (r .count) cs ts ss)
+module _ (m : ℕ) (r : Contents) (cs ps : List ℕ) where
+  pub found-answer : (o : Option Answer) → contents m r cs ps ≡ few o → r .ok ≡ true → o ≡ some (answerAt (r .steps) m cs (r .count) ps)
   unfolding contents few
   found-answer none e h =
-      let same : some (answerIn m (r .steps) (r .count) cs ts ss) ≡ none = rw h at e in
+      let same : some (answerAt (r .steps) m cs (r .count) ps) ≡ none = rw h at e in
       let z : _≡_ {A = ℕ} 0 1 = cc in
       absurd (omega arith)
   found-answer (some a) e h =
-      let here : some (answerIn m (r .steps) (r .count) cs ts ss) ≡ few (some a) = rw h at e in
+      let here : some (answerAt (r .steps) m cs (r .count) ps) ≡ few (some a) = rw h at e in
       elim (decLe (length (a .pairs)) 64) [
         | yes l ↦ sym (here ∙ rw (le-leb (length (a .pairs)) 64 l))
-        | no l ↦ let same : some (answerIn m (r .steps) (r .count) cs ts ss) ≡ none = here ∙ rw (lt-leb (length (a .pairs)) 64 (omega arith)) in
+        | no l ↦ let same : some (answerAt (r .steps) m cs (r .count) ps) ≡ none = here ∙ rw (lt-leb (length (a .pairs)) 64 (omega arith)) in
             let z : _≡_ {A = ℕ} 0 1 = cc in
             absurd (omega arith)
       ]
 
-  pub missed-answer : (o : Option Answer) → contents m r cs ts ss ≡ few o → r .ok ≡ false → (a : Answer) → o ≡ some a → 64 < length (a .pairs)
+  pub missed-answer : (o : Option Answer) → contents m r cs ps ≡ few o → r .ok ≡ false → (a : Answer) → o ≡ some a → 64 < length (a .pairs)
   unfolding contents few
   missed-answer o e h a q =
       let nothing : none ≡ few (some a) = rw (h, q) at e in

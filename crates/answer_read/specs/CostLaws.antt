@@ -5,16 +5,18 @@ use mathlib.Core.Path.{_≡_, refl, sym, ap, ap₂, subst, _∙_}
 use mathlib.Core.List.{List, [], _∷_, _++_, flatMap, append-nil}
 use lib.ListN.{length, getD, take, drop, length-append, length-drop}
 use lib.Seq.{take-append-le, drop-append-seam}
-use Rattle.leb128.specs.Number.{encode, decode, located, readAt}
+use Rattle.number.specs.Number.{encode, decode}
+use Rattle.leb128.specs.Positions.{located, readAt}
 use Rattle.leb128.specs.declared.Number.the-variants as Read
-use Rattle.leb128.specs.Laws.{decode-encode}
+use Rattle.number.specs.Laws.{decode-encode}
 use Rattle.optimum.specs.Optimum.{both}
-use Rattle.frame.specs.Job.{numberBytes, stepBytes, bytesOf}
-use Rattle.frame.specs.Answers.{answerNumbers}
+use Rattle.limits.specs.Limits.{numberBytes, stepBytes}
+use Rattle.frame.specs.Job.{bytesOf}
+use Rattle.frame.specs.AnswerMeaning.{answerNumbers}
 use Rattle.frame.specs.Services.{costOffset, costLength}
 use Rattle.frame.specs.Meaning.{Divides}
-use Rattle.job.specs.Finding.{skipped, skip-numbers}
-use Rattle.job.specs.FormLaws.{parts-join, drop-divides}
+use Rattle.codec.specs.Numbers.{skipped}
+use Rattle.codec.specs.NumberLaws.{skip-numbers, parts-join, drop-divides}
 use Rattle.answer_read.specs.Costs.{CostIn, costPlaceIn}
 
 one-number : (xs ys : List ℕ) (e : ℕ) → e < length xs → take 1 (drop e (xs ++ ys)) ≡ getD xs e 0 ∷ []
@@ -31,7 +33,8 @@ module _ (s : List ℕ) (e : ℕ) (k : CostIn s e) where
   unfolding located
   steps-at =
       subst (λ t. readAt stepBytes t 0 ≡ Read.Value (k .answer .steps) (length (encode stepBytes (k .answer .steps)))) (k .layout .joined)
-      (ap (located 0) (decode-encode stepBytes (k .answer .steps) (bytesOf ns) (omega arith) (k .layout .step-limit)) ∙ ap (Read.Value (k .answer .steps)) (omega arith))
+      (ap (located 0) (decode-encode stepBytes (k .answer .steps) (bytesOf ns) (omega arith) (k .layout .step-limit)) ∙
+      ap (Read.Value (k .answer .steps)) (omega arith))
 
   pub steps-found : readAt stepBytes s 0 ≡ Read.Refused → ⊥
   steps-found r =
@@ -62,7 +65,8 @@ module _ (s : List ℕ) (e : ℕ) (k : CostIn s e) where
           p ∙ skip-numbers part ns 0 e divides (omega (arith, enough)) ∙ whole
 
       at-end : end ≡ first + length (bytesOf (take 1 (drop e ns)))
-      at-end = q ∙ ap (skipped part 1) at-first ∙ skip-numbers part ns e 1 divides enough ∙ ap (λ (o : ℕ). o + length (bytesOf (take 1 (drop e ns)))) (sym at-first)
+      at-end =
+          q ∙ ap (skipped part 1) at-first ∙ skip-numbers part ns e 1 divides enough ∙ ap (λ (o : ℕ). o + length (bytesOf (take 1 (drop e ns)))) (sym at-first)
 
       pub cost-order : first ≤ end
       cost-order = omega (arith, at-end)
@@ -71,13 +75,28 @@ module _ (s : List ℕ) (e : ℕ) (k : CostIn s e) where
       rest = rw at-first (parts-join (drop (length (bytesOf (take e ns))) part) (drop e ns) 1 (drop-divides part ns e divides))
 
       pub cost-within : end ≤ length part
-      cost-within = omega (arith, at-first, at-end, length-append (bytesOf (take e ns)) (bytesOf (drop e ns)), ap length (parts-join part ns e divides), length-append (bytesOf (take 1 (drop e ns))) (bytesOf (drop 1 (drop e ns))), ap length rest, length-drop first part)
+      cost-within =
+          omega (
+            arith,
+            at-first,
+            at-end,
+            length-append (bytesOf (take e ns)) (bytesOf (drop e ns)),
+            ap length (parts-join part ns e divides),
+            length-append (bytesOf (take 1 (drop e ns))) (bytesOf (drop 1 (drop e ns))),
+            ap length rest,
+            length-drop first part,
+          )
 
       pub cost-place : record { offset = next + first; size = end - first } ≡ costPlaceIn (k .answer) e
       unfolding flatMap
       cost-place =
-          let here : first ≡ length (bytesOf (take e (k .answer .costs))) = at-first ∙ ap (λ xs. length (bytesOf xs)) (take-append-le e (k .answer .costs) (length (k .answer .pairs) ∷ flatMap both (k .answer .pairs)) (omega (arith, k .inside))) in
-          let offset : next + first ≡ costOffset (k .answer) e = omega (arith, here, behind-is, length-append (encode stepBytes (k .answer .steps)) (bytesOf (take e (k .answer .costs)))) in
-          let one : length (bytesOf (take 1 (drop e ns))) ≡ costLength (k .answer) e = ap length (ap bytesOf (one-number (k .answer .costs) (length (k .answer .pairs) ∷ flatMap both (k .answer .pairs)) e (k .inside)) ∙ append-nil (encode numberBytes (getD (k .answer .costs) e 0))) in
+          let here : first ≡ length (bytesOf (take e (k .answer .costs))) = at-first ∙
+          ap (λ xs. length (bytesOf xs)) (take-append-le e (k .answer .costs) (length (k .answer .pairs) ∷ flatMap both (k .answer .pairs))
+          (omega (arith, k .inside))) in
+          let offset : next + first ≡ costOffset (k .answer) e = omega
+          (arith, here, behind-is, length-append (encode stepBytes (k .answer .steps)) (bytesOf (take e (k .answer .costs)))) in
+          let one : length (bytesOf (take 1 (drop e ns))) ≡ costLength (k .answer) e = ap length
+          (ap bytesOf (one-number (k .answer .costs) (length (k .answer .pairs) ∷ flatMap both (k .answer .pairs)) e (k .inside)) ∙
+          append-nil (encode numberBytes (getD (k .answer .costs) e 0))) in
           let size : end - first ≡ costLength (k .answer) e = omega (arith, at-end, one) in
           ap₂ (λ (o n : ℕ). record { offset = o; size = n }) offset size

@@ -1,6 +1,5 @@
 -- The model and the laws of reading answer frames into arrays.
 pub mod Reading
-pub mod LoadLaws
 pub mod AnswerLaws
 pub mod Costs
 pub mod CostLaws

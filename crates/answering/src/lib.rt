@@ -6,8 +6,8 @@ ghost use Prim.Native.Nat.{ℕ};
 ghost use Rattle.accept.specs.Accepting.{Asked, AskedSome};
 ghost use Rattle.answering.specs.Answering.{Answered, Untouched};
 use accept::accept;
-use job::read::Header;
-use job::write::Reply;
+use codec::Reply;
+use job::Header;
 use solve::solve;
 
 // Writes the answer to a job in arrays into the area, or refuses it and writes nothing. The arrays of ends and marks serve
@@ -23,7 +23,8 @@ pub fn answer_held(
     area: &mut [u8],
 ) -> Reply
     requires { ⌜ AskedSome header (now end1) (now end2) (now cost) (now mark) (now ts) (now mask) ⌝ }
-    ensures answered { λ r. ⌜ ((s : List ℕ) → Asked s header (now (end1 .entry)) (now (end2 .entry)) (now (cost .entry)) (now (mark .entry)) (now (ts .entry)) (now (mask .entry)) → Answered s (now (area .entry)) r (now (area .exit))) ⌝ }
+    ensures answered { λ r. ⌜ ((s : List ℕ) → Asked s header (now (end1 .entry)) (now (end2 .entry)) (now (cost .entry)) (now (mark .entry))
+        (now (ts .entry)) (now (mask .entry)) → Answered s (now (area .entry)) r (now (area .exit))) ⌝ }
     ensures refused { λ r. ⌜ (header .refusal ≢ 0 → Untouched (header .refusal) (now (area .entry)) r (now (area .exit))) ⌝ }
 {
     let refusal = header.refusal;
@@ -36,8 +37,7 @@ pub fn answer_held(
     let nodes = header.nodes;
     let edges = header.edges as usize;
     let mut costs = [0u32; 256];
-    let mut pair_tree = [0u32; 64];
-    let mut pair_spare = [0u32; 64];
+    let mut pairs = [0u32; 128];
     let s = solve(
         nodes,
         edges,
@@ -48,21 +48,10 @@ pub fn answer_held(
         ts,
         mask,
         &mut costs,
-        &mut pair_tree,
-        &mut pair_spare,
+        &mut pairs,
     );
     let new: &[u32; 256] = &costs;
-    answer::write::write_answer(
-        0,
-        s.steps,
-        edges,
-        new,
-        s.count,
-        &pair_tree,
-        &pair_spare,
-        area,
-        0,
-    )
+    answer::write_answer(0, s.steps, edges, new, s.count, &pairs, area, 0)
 }
 
 // Writes the answer to a job frame into the area, or refuses it and writes nothing.

@@ -11,47 +11,50 @@ use lib.Dec.{leb, ltb, eqb}
 use lib.ListN.{length, getD, take}
 use lib.Seq.{length-take-le}
 use borrow.Author.Tests.{ltb-true, eq-eqb, ne-eqb}
-use Rattle.loops.specs.Loop.{sum, allBelow, tabulate}
+use Rattle.loops.specs.Below.{sum, allBelow}
+use Rattle.loops.specs.Loop.{tabulate}
 use Rattle.loops.specs.TestLaws.{truth, and-first, and-second, all-at, all-same}
 use Rattle.loops.specs.SumLaws.{sum-same}
 use Rattle.loops.specs.GatherLaws.{length-tabulate, getD-tabulate}
 use Rattle.loops.specs.Ordered.{member-place}
-use Rattle.graph.specs.Graph.{Graph, EdgeSet, count}
-use Rattle.graph.specs.Rank.{Lists, spareOf, treeRanks}
+use Rattle.graph.specs.Graph.{Graph, EdgeSet, count, spareOf}
+use Rattle.graph.specs.Rank.{Lists, treeRanks}
 use Rattle.graph.specs.RankLaws.{tree-lists}
 use Rattle.graph.specs.Paths.{rooted, coversRank, judge}
 use Rattle.optimum.specs.Optimum.{Pair, Answer, Rising}
 use Rattle.optimum.specs.PairLaws.{rising-count}
 use Rattle.optimum.specs.Solve.{gap}
-use Rattle.tree.specs.Arrays.{arrayGraph, arrayTree, arrayCost, paths}
-use Rattle.tree.specs.JudgeLaws.{across-covers}
+use Rattle.paths.specs.Arrays.{arrayGraph, arrayTree, arrayCost, paths}
+use Rattle.paths.specs.RootLaws.{across-covers}
 use Rattle.frame.specs.Job.{Job, treeOf, costOf}
-use Rattle.frame.specs.Answers.{noPair, rankOf, pairHolds, pairsRise, pairsWeight, answerHolds, readAnswer, judgeRead, judgeAnswer}
+use Rattle.frame.specs.Answers.{pairFrom, noPair, rankOf, pairHolds, pairsRise, pairsWeight, answerHolds, readAnswer, judgeRead, judgeAnswer}
 use Rattle.answer_read.specs.declared.Contents.{Contents}
-use Rattle.answer_read.specs.Reading.{pairIn, contents, few}
+use Rattle.codec.specs.Held.{pairsAt}
+use Rattle.answer_read.specs.Reading.{contents, few}
 use Rattle.answer_read.specs.AnswerLaws.{found-answer, missed-answer}
-use Rattle.certify.specs.Judging.{pairHeld, pairsHeld, pairRises, fall, Judging, JobIn}
+use Rattle.pairing.specs.Pairs.{pairHeld, pairsHeld, pairRises, fall, Judging}
+use Rattle.certify.specs.Judging.{JobIn}
 
 -- ---- the tests, of pairs in arrays
 
-module _ (n : ℕ) (trees spares : List ℕ) where
+module _ (n : ℕ) (ps : List ℕ) where
   abbrev pairs : List Pair
-  pairs = tabulate n (pairIn trees spares)
+  pairs = pairsAt n ps
 
   size : length pairs ≡ n
-  size = length-tabulate (pairIn trees spares) n
+  size = length-tabulate (pairFrom ps) n
 
-  at : (i : ℕ) → i < n → getD pairs i noPair ≡ pairIn trees spares i
-  at i l = getD-tabulate (pairIn trees spares) n i noPair l
+  at : (i : ℕ) → i < n → getD pairs i noPair ≡ pairFrom ps i
+  at i l = getD-tabulate (pairFrom ps) n i noPair l
 
-  rise-model : allBelow n (pairRises trees spares) ≡ pairsRise pairs
+  rise-model : allBelow n (pairRises ps) ≡ pairsRise pairs
   rise-model =
       rw size
       (all-same n _ _ λ i l.
       all-same i _ _ λ k b.
       sym (ap₂ (λ (x y : Pair). ltb (x .tree) (y .tree) && not (eqb (x .spare) (y .spare))) (at k (omega arith)) (at i l)))
 
-  weight-model : (as₃ : List ℕ) → sum n (fall trees spares as₃) ≡ pairsWeight (arrayCost as₃) pairs
+  weight-model : (as₃ : List ℕ) → sum n (fall ps as₃) ≡ pairsWeight (arrayCost as₃) pairs
   weight-model as₃ =
       rw size
       (sum-same n _ _ λ i l. rw (at i l))
@@ -65,12 +68,12 @@ module _ (n : ℕ) (trees spares : List ℕ) where
     pair-model t s = rw (across-covers nodes edges as₁ as₂ mask (take p ts) same s (rankOf (take p ts) t))
 
     pairs-model :
-        pairsHeld edges p ts as₁ as₂ as₃ as₄ mask n trees spares
+        pairsHeld edges p ts as₁ as₂ as₃ as₄ mask n ps
         ≡ allBelow (length pairs) (λ i. pairHolds (arrayGraph nodes edges as₁ as₂) (arrayTree as₄) (arrayCost as₃) (take p ts) (getD pairs i noPair))
     pairs-model =
         rw size
         (all-same n _ _ λ i l.
-        pair-model (getD trees i 0) (getD spares i 0)
+        pair-model (pairFrom ps i .tree) (pairFrom ps i .spare)
         ∙ ap (pairHolds (arrayGraph nodes edges as₁ as₂) (arrayTree as₄) (arrayCost as₃) (take p ts)) (sym (at i l)))
 
 -- ---- the new costs
@@ -119,7 +122,8 @@ module _ (g : Graph) (tr : EdgeSet) (c : ℕ → ℕ) (ranks : List ℕ) where
   pairs-count a rise held =
       rising-count (g .edges) tr (a .pairs)
       (rising-of (a .pairs) λ k i l b.
-      ltb-true _ _ (and-first (ltb (getD (a .pairs) k noPair .tree) (getD (a .pairs) i noPair .tree)) _ (all-at i _ (all-at (length (a .pairs)) _ rise i b) k l)))
+      ltb-true _ _ (and-first (ltb (getD (a .pairs) k noPair .tree) (getD (a .pairs) i noPair .tree)) _
+      (all-at i _ (all-at (length (a .pairs)) _ rise i b) k l)))
       λ q m.
       let (i, l, e) = member-place noPair m in
       rw (← e) (pair-tree (getD (a .pairs) i noPair) (all-at (length (a .pairs)) _ held i l))
@@ -138,34 +142,34 @@ module _ (g : Graph) (tr : EdgeSet) (c : ℕ → ℕ) (ranks : List ℕ) where
 -- ---- the verdict
 
 -- The five tests: steps, new costs, pairs, their order, their weight.
-unfoldable pub verdict : ℕ → ℕ → Bool → Bool → Bool → ℕ → Bool
-verdict steps x cheapest held rise w = eqb steps x && cheapest && held && rise && eqb w steps
+unfoldable pub fiveTests : ℕ → ℕ → Bool → Bool → Bool → ℕ → Bool
+fiveTests steps x cheapest held rise w = eqb steps x && cheapest && held && rise && eqb w steps
 
 module _ (steps x : ℕ) (cheapest held rise : Bool) (w : ℕ) where
-  pub verdict-steps : (x ≡ steps → ⊥) → verdict steps x cheapest held rise w ≡ false
-  unfolding verdict
+  pub verdict-steps : (x ≡ steps → ⊥) → fiveTests steps x cheapest held rise w ≡ false
+  unfolding fiveTests
   verdict-steps d = rw (ne-eqb steps x (λ e. d (sym e)))
 
   module _ (e : x ≡ steps) where
-    pub verdict-costs : cheapest ≡ false → verdict steps x cheapest held rise w ≡ false
-    unfolding verdict
+    pub verdict-costs : cheapest ≡ false → fiveTests steps x cheapest held rise w ≡ false
+    unfolding fiveTests
     verdict-costs h = rw (eq-eqb steps x (sym e), h)
 
-    pub verdict-pairs : cheapest ≡ true → held ≡ false → verdict steps x cheapest held rise w ≡ false
-    unfolding verdict
+    pub verdict-pairs : cheapest ≡ true → held ≡ false → fiveTests steps x cheapest held rise w ≡ false
+    unfolding fiveTests
     verdict-pairs h₁ h = rw (eq-eqb steps x (sym e), h₁, h)
 
-    pub verdict-order : cheapest ≡ true → held ≡ true → rise ≡ false → verdict steps x cheapest held rise w ≡ false
-    unfolding verdict
+    pub verdict-order : cheapest ≡ true → held ≡ true → rise ≡ false → fiveTests steps x cheapest held rise w ≡ false
+    unfolding fiveTests
     verdict-order h₁ h₂ h = rw (eq-eqb steps x (sym e), h₁, h₂, h)
 
-    pub verdict-weight : cheapest ≡ true → held ≡ true → rise ≡ true → verdict steps x cheapest held rise w ≡ eqb w steps
-    unfolding verdict
+    pub verdict-weight : cheapest ≡ true → held ≡ true → rise ≡ true → fiveTests steps x cheapest held rise w ≡ eqb w steps
+    unfolding fiveTests
     verdict-weight h₁ h₂ h₃ = rw (eq-eqb steps x (sym e), h₁, h₂, h₃)
 
 -- The job in the arrays, and what was read.
 module _ (j : Job) (edges p : ℕ) (ts as₁ as₂ as₃ as₄ mask : List ℕ) (judging : Judging edges p ts as₁ as₂ mask) (job : JobIn j edges p ts as₁ as₂ as₃ as₄ mask)
-    (frame : List ℕ) (r : Contents) (costs trees spares : List ℕ) (found : contents edges r costs trees spares ≡ few (readAnswer edges frame)) where
+    (frame : List ℕ) (r : Contents) (costs ps : List ℕ) (found : contents edges r costs ps ≡ few (readAnswer edges frame)) where
   abbrev graph : Graph
   graph = arrayGraph (j .nodes) edges as₁ as₂
 
@@ -203,7 +207,7 @@ module _ (j : Job) (edges p : ℕ) (ts as₁ as₂ as₃ as₄ mask : List ℕ) 
             | inl h ↦
                 absurd (omega (
                   arith,
-                  missed-answer edges r costs trees spares (readAnswer edges frame) found unread a e,
+                  missed-answer edges r costs ps (readAnswer edges frame) found unread a e,
                   pairs-few graph (arrayTree as₄) (arrayCost as₃) (take p ts) a lists h,
                   judging .few,
                   length-take-le p ts (judging .judged .within),
@@ -214,19 +218,19 @@ module _ (j : Job) (edges p : ℕ) (ts as₁ as₂ as₃ as₄ mask : List ℕ) 
   module _ (read : r .ok ≡ true) where
     pub verdict-read :
         judgeAnswer j frame
-        ≡ verdict (r .steps) (sum edges (λ e. gap (getD costs e 0) (getD as₃ e 0)))
+        ≡ fiveTests (r .steps) (sum edges (λ e. gap (getD costs e 0) (getD as₃ e 0)))
         (judge graph (arrayTree as₄) (arrayCost costs) (take p ts))
-        (pairsHeld edges p ts as₁ as₂ as₃ as₄ mask (r .count) trees spares)
-        (allBelow (r .count) (pairRises trees spares))
-        (sum (r .count) (fall trees spares as₃))
-    unfolding answerHolds verdict
+        (pairsHeld edges p ts as₁ as₂ as₃ as₄ mask (r .count) ps)
+        (allBelow (r .count) (pairRises ps))
+        (sum (r .count) (fall ps as₃))
+    unfolding answerHolds fiveTests
     verdict-read =
-        judged-some _ (found-answer edges r costs trees spares (readAnswer edges frame) found read)
+        judged-some _ (found-answer edges r costs ps (readAnswer edges frame) found read)
         ∙ rw (
           steps-model edges costs (arrayCost as₃),
           judge-alike graph (arrayTree as₄) (arrayCost costs) (λ e. getD (tabulate edges (λ e. getD costs e 0)) e 0) (take p ts) (lists .below)
               (λ e l. sym (getD-tabulate (λ e. getD costs e 0) edges e 0 l)),
-          pairs-model (r .count) trees spares (j .nodes) edges p ts as₁ as₂ as₃ as₄ mask (job .paths),
-          rise-model (r .count) trees spares,
-          weight-model (r .count) trees spares as₃,
+          pairs-model (r .count) ps (j .nodes) edges p ts as₁ as₂ as₃ as₄ mask (job .paths),
+          rise-model (r .count) ps,
+          weight-model (r .count) ps as₃,
         )

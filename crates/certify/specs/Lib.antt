@@ -1,4 +1,3 @@
 -- The model over arrays and the laws of the judge of answer frames.
 pub mod Judging
-pub mod PairLaws
 pub mod JudgeLaws

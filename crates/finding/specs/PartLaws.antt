@@ -9,15 +9,16 @@ use lib.Dec.{eqb}
 use lib.ListN.{length, take, drop}
 use borrow.Author.Tests.{eqb-true, eqb-false}
 use Rattle.loops.specs.TestLaws.{truth}
-use Rattle.leb128.specs.Number.{Bytes}
+use Rattle.number.specs.Number.{Bytes}
 use Rattle.frame.specs.Answers.{judgeAnswer}
 use Rattle.frame.specs.AnswerMeaning.{AnswerOf}
 use Rattle.frame.specs.AnswerJudge.{answer-judged, certified-judged}
 use Rattle.frame.specs.Questions.{jobOf, refusal}
-use Rattle.frame.specs.Services.{Place, nowhere, partAt, linkPlace, linkPart, costPlace, costPart}
+use Rattle.frame.specs.Services.{Place, nowhere, partAt}
+use Rattle.frame.specs.Replies.{linkPlace, linkPart, costPlace, costPart}
 use Rattle.frame.specs.Accepted.{accepted, accepted-form}
 use Rattle.frame.specs.Finders.{link-shown, link-refused, link-past, cost-nowhere-refused, cost-nowhere-past, cost-nowhere-judged, cost-placed, cost-shown, cost-refused, cost-past, cost-judged-no}
-use Rattle.job.specs.declared.read.Header.{Header}
+use Rattle.job.specs.declared.Header.{Header}
 use Rattle.job.specs.Reading.{header, headerOf}
 use Rattle.accept.specs.Accepting.{acceptedHeader}
 use Rattle.accept.specs.AcceptLaws.{accepted-number}
@@ -28,7 +29,10 @@ use Rattle.judging.specs.declared.Verdict.{Verdict}
 use Rattle.judging.specs.declared.Verdict.the-variants.{Yes}
 
 -- The part between a place's two ends.
-pub between-ends : (P : List ℕ → Type 0) (s : List ℕ) (place : Place) → P (partAt place s) → P (take ((place .offset + place .size) - place .offset) (drop (place .offset) s))
+pub between-ends :
+    (P : List ℕ → Type 0) (s : List ℕ) (place : Place) →
+    P (partAt place s) →
+    P (take ((place .offset + place .size) - place .offset) (drop (place .offset) s))
 between-ends P s place h =
     let size : (place .offset + place .size) - place .offset ≡ place .size = omega arith in
     subst (λ (n : ℕ). P (take n (drop (place .offset) s))) (sym size) h
@@ -69,7 +73,9 @@ module _ (s f : List ℕ) (b : Bytes s) (q : Bytes f) (e : ℕ) where
         shown = λ z l a c. cost-shown s f e a z l (certified-judged (jobOf s) (accepted s b z) c) (c .layout);
         refused = λ n. cost-refused s f e n;
         past = λ l. cost-past s f e l;
-        no-answer = λ z n. cost-judged-no s f e (⊎-elim (λ y. absurd (n (answer-judged (jobOf s) (accepted s b z) f q .0 y))) (λ w. w) (truth (judgeAnswer (jobOf s) f)));
+        no-answer =
+            λ z n. cost-judged-no s f e (⊎-elim (λ y. absurd (n (answer-judged (jobOf s) (accepted s b z) f q .0 y))) (λ w. w)
+            (truth (judgeAnswer (jobOf s) f)));
       }
 
   cost-located : (place : Place) → place ≡ costPlace s f e → place .offset + place .size ≤ length f → CostLocated s f e place
@@ -81,7 +87,8 @@ module _ (s f : List ℕ) (b : Bytes s) (q : Bytes f) (e : ℕ) where
   pub cost-unlinked : (refusal s ≡ 0 → length (jobOf s .links) ≤ e) → CostLocated s f e nowhere
   cost-unlinked past =
       cost-nowhere
-      (⊎-elim (λ y. sym (cost-nowhere-past s f e (past (eqb-true _ _ y)))) (λ n. sym (cost-nowhere-refused s f e (eqb-false _ _ n))) (truth (eqb (refusal s) 0)))
+      (⊎-elim (λ y. sym (cost-nowhere-past s f e (past (eqb-true _ _ y)))) (λ n. sym (cost-nowhere-refused s f e (eqb-false _ _ n)))
+      (truth (eqb (refusal s) 0)))
 
   pub cost-refused-nowhere : (refusal s ≡ 0 → ⊥) → (place : Place) → place ≡ nowhere → CostLocated s f e place
   cost-refused-nowhere n place is = subst (λ t. CostLocated s f e t) (sym is) (cost-nowhere (sym (cost-nowhere-refused s f e n)))
@@ -91,7 +98,8 @@ module _ (s f : List ℕ) (b : Bytes s) (q : Bytes f) (e : ℕ) where
       let word : refusal s ≡ 0 → judgeAnswer (jobOf s) f ≡ false
       = λ z. ⊎-elim (λ y. absurd (n (v .yes-means .1 (z, answer-judged (jobOf s) (accepted s b z) f q .0 y)))) (λ w. w) (truth (judgeAnswer (jobOf s) f)) in
       cost-nowhere
-      (⊎-elim (λ y. sym (cost-nowhere-judged s f e (word (eqb-true _ _ y)))) (λ w. sym (cost-nowhere-refused s f e (eqb-false _ _ w))) (truth (eqb (refusal s) 0)))
+      (⊎-elim (λ y. sym (cost-nowhere-judged s f e (word (eqb-true _ _ y)))) (λ w. sym (cost-nowhere-refused s f e (eqb-false _ _ w)))
+      (truth (eqb (refusal s) 0)))
 
   -- Where the answer is judged yes and the link is there, its new cost is.
   module _ (inside : e < length (jobOf s .links)) (r : Verdict) (v : AnswerJudged s f r) (yes : r ≡ Yes) where

@@ -4,12 +4,14 @@ use mathlib.Core.Path.{_≡_}
 use mathlib.Core.Logic.{_≢_}
 use mathlib.Core.List.{List, []}
 use lib.ListN.{length, getD}
-use Rattle.frame.specs.Job.{link, fields, bytesOf, numberBytes}
+use Rattle.frame.specs.Job.{link, fields, bytesOf}
+use Rattle.limits.specs.Limits.{numberBytes}
 use Rattle.frame.specs.Questions.{jobOf, refusal}
-use Rattle.frame.specs.Services.{Place, partAt, linkPlace, linkPart, costPlace, costPart}
+use Rattle.frame.specs.Services.{Place, partAt}
+use Rattle.frame.specs.Replies.{linkPlace, linkPart, costPlace, costPart}
 use Rattle.frame.specs.AnswerMeaning.{Certified}
 use Rattle.optimum.specs.Optimum.{Answer}
-use Rattle.leb128.specs.Number.{encode}
+use Rattle.number.specs.Number.{encode}
 
 -- The part handed back for link e of the frame s: the frame's own bytes from the link's offset on, as many as the link
 -- takes, and these are its four numbers; nothing if the frame is refused or has no such link.

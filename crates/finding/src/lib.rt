@@ -4,13 +4,13 @@ ghost use mathlib.Core.Logic.{_≢_};
 ghost use mathlib.Core.List.{List};
 ghost use Prim.Native.Nat.{ℕ};
 ghost use Rattle.frame.specs.Services.{nowhere};
-ghost use Rattle.job.specs.Finding.{placeOf};
+ghost use Rattle.codec.specs.Numbers.{placeOf};
 ghost use Rattle.accept.specs.Accepting.{Asked, AskedSome};
 ghost use Rattle.finding.specs.Parts.{LinkFound, CostFound, LinkLocated, CostLocated};
 use accept::accept;
+use codec::Part;
 use ids::Edge;
-use job::find::Part;
-use job::read::Header;
+use job::Header;
 use judging::Verdict;
 use judging::judge_answer_held;
 
@@ -33,7 +33,7 @@ pub fn locate_link(frame: &[u8], edge: Edge) -> Part
         &mut ts,
         &mut mask,
     );
-    job::find::locate_link(frame, header, edge)
+    job::link_part(frame, header, edge)
 }
 
 // The bytes of a link; none if the frame is refused or has no such link.
@@ -60,7 +60,8 @@ pub fn locate_cost_held(
     edge: Edge,
 ) -> Part
     requires { ⌜ AskedSome header (now end1) (now end2) (now cost) (now mark) (now ts) (now mask) ⌝ }
-    ensures located { λ r. ⌜ ((s : List ℕ) → Asked s header (now (end1 .entry)) (now (end2 .entry)) (now (cost .entry)) (now (mark .entry)) (now (ts .entry)) (now (mask .entry)) → CostLocated s (now (offered .entry)) (edge .0) (placeOf r)) ⌝ }
+    ensures located { λ r. ⌜ ((s : List ℕ) → Asked s header (now (end1 .entry)) (now (end2 .entry)) (now (cost .entry)) (now (mark .entry)) (now (ts .entry))
+        (now (mask .entry)) → CostLocated s (now (offered .entry)) (edge .0) (placeOf r)) ⌝ }
     ensures refused { λ r. ⌜ (header .refusal ≢ 0 → placeOf r ≡ nowhere) ⌝ }
 {
     let e = edge.0;
@@ -77,7 +78,7 @@ pub fn locate_cost_held(
             length: 0,
         };
     };
-    answer_read::locate_cost(offered, e as usize)
+    answer_read::cost_part(offered, e as usize)
 }
 
 // Where a link's new cost stands in the frame offered as an answer; nowhere, of length 0, if the job frame is refused, has

@@ -10,12 +10,13 @@ use lib.Dec.{leb}
 use lib.ListN.{length, getD}
 use borrow.Author.Tests.{le-leb}
 use Rattle.loops.specs.TestLaws.{and-both, all-of}
-use Rattle.leb128.specs.Number.{Bytes}
+use Rattle.number.specs.Number.{Bytes}
 use Rattle.graph.specs.Graph.{Sound}
-use Rattle.frame.specs.Job.{Edge, Job, noEdge, link, maxNodes, maxEdges, maxNumber, fields, jobNumbers, jobFrame, graphOf, costOf}
-use Rattle.frame.specs.Questions.{jobFrom, jobOf, question6, ask, formRefusal, refusal}
-use Rattle.frame.specs.Services.{smallEdge, small, counted, listRefusal}
-use Rattle.frame.specs.Meaning.{Small, EndsHold, TreeHolds, Formed, FirstNo, Accepted}
+use Rattle.frame.specs.Job.{JobLink, Job, noLink, link, fields, jobNumbers, jobFrame, graphOf, costOf}
+use Rattle.limits.specs.Limits.{maxNodes, maxEdges, maxNumber}
+use Rattle.frame.specs.Questions.{jobOf, question6, ask, formRefusal, refusal, counted, listRefusal}
+use Rattle.frame.specs.Services.{smallNumbers, small}
+use Rattle.frame.specs.Meaning.{Small, EndsHold, TreeHolds, Formed, FirstNo, Accepted, jobFrom}
 use Rattle.frame.specs.Meaning.FirstNo.{no1, no2, no3, no4, no5, no6, none}
 use Rattle.frame.specs.Form.{ends-sound, question4-means, question5-means, question6-means, first-no, first-no-unique, form-refusal, beforeTree}
 use Rattle.frame.specs.RoundTrip.{job-numbers, formed, job-of, write-read}
@@ -56,11 +57,11 @@ accepted-form s e = form-refusal s ∙ ap beforeTree e
 
 -- ---- lists of links
 
-small-edge : (l : Edge) (rest : List ℕ) → Small (fields l ++ rest) → smallEdge l ≡ true
+small-edge : (l : JobLink) (rest : List ℕ) → Small (fields l ++ rest) → smallNumbers l ≡ true
 small-edge l rest h =
     rw (le-leb (l .end₁) maxNumber (h 0), le-leb (l .end₂) maxNumber (h 1), le-leb (l .cost) maxNumber (h 2), le-leb (l .mark) maxNumber (h 3))
 
-small-edges : (ls : List Edge) → Small (flatMap fields ls) → (e : ℕ) → e < length ls → smallEdge (getD ls e noEdge) ≡ true
+small-edges : (ls : List JobLink) → Small (flatMap fields ls) → (e : ℕ) → e < length ls → smallNumbers (getD ls e noLink) ≡ true
 unfolding flatMap
 small-edges [] h e l = absurd (omega arith)
 small-edges (k ∷ ls) h zero l = small-edge k (flatMap fields ls) h
@@ -71,7 +72,7 @@ unfolding small
 job-small j h =
     and-both (leb (j .nodes) maxNumber && leb (length (j .links)) maxNumber) _
     (and-both (leb (j .nodes) maxNumber) _ (le-leb (j .nodes) maxNumber (h 0)) (le-leb (length (j .links)) maxNumber (h 1)))
-    (all-of (length (j .links)) (λ e. smallEdge (link j e)) (small-edges (j .links) (λ i. h (suc (suc i)))))
+    (all-of (length (j .links)) (λ e. smallNumbers (link j e)) (small-edges (j .links) (λ i. h (suc (suc i)))))
 
 job-counted : (j : Job) → Accepted j → counted j ≡ true
 unfolding counted
@@ -106,7 +107,13 @@ list-accepted j = (to, from)
     from : Accepted j → listRefusal j ≡ 0
     from a =
         let ends : EndsHold j = sound-ends j (a .sound) in
-        rw (job-small j (a .small), job-counted j a, question4-means j .1 ends, question5-means j .1 (a .marks), question6-means j (a .some-node) ends .1 (a .tree))
+        rw (
+          job-small j (a .small),
+          job-counted j a,
+          question4-means j .1 ends,
+          question5-means j .1 (a .marks),
+          question6-means j (a .some-node) ends .1 (a .tree),
+        )
 
 -- What is written of an accepted job is accepted and reads as that job.
 pub read-write6 : (j : Job) → Accepted j → (refusal (jobFrame j) ≡ 0) × (jobOf (jobFrame j) ≡ j)
@@ -138,7 +145,7 @@ refused6 s h = (
         omega (arith, e, first-no-unique s 0 h (none ns f (subst TreeHolds (job-of s ns h (f .divides)) t)))
 
 -- No cost is above 16,383 if no number of the job is.
-links-small : (ls : List Edge) → Small (flatMap fields ls) → (e : ℕ) → getD ls e noEdge .cost ≤ maxNumber
+links-small : (ls : List JobLink) → Small (flatMap fields ls) → (e : ℕ) → getD ls e noLink .cost ≤ maxNumber
 unfolding flatMap
 links-small [] h e = omega arith
 links-small (l ∷ ls) h zero = h 2

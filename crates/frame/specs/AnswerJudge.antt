@@ -12,25 +12,25 @@ use lib.Dec.{ltb, eqb}
 use lib.IntN.{pos, natAbs, _-ℤ_}
 use lib.ListN.{length, getD}
 use borrow.Author.Tests.{ltb-true, lt-ltb, eqb-true, eqb-false, eq-eqb, ne-eqb, not-true}
-use Rattle.loops.specs.Loop.{sum, allBelow}
+use Rattle.loops.specs.Below.{sum, allBelow}
 use Rattle.loops.specs.TestLaws.{clash, and-first, and-second, and-both, all-at, all-of}
 use Rattle.loops.specs.SumLaws.{sum-over, sum-same}
 use Rattle.loops.specs.FirstLaws.{First, first-is}
 use Rattle.loops.specs.Ordered.{Ordered, ordered-at, getD-member, member-place}
-use Rattle.leb128.specs.Number.{Bytes}
-use Rattle.graph.specs.Graph.{Graph, Sound, EdgeSet, SpanningTree, Minimum, Covers, NoneTwice}
-use Rattle.graph.specs.Rank.{spareOf, Lists}
+use Rattle.number.specs.Number.{Bytes}
+use Rattle.graph.specs.Graph.{Graph, Sound, EdgeSet, SpanningTree, Minimum, Covers, NoneTwice, spareOf}
+use Rattle.graph.specs.Rank.{Lists}
 use Rattle.graph.specs.Paths.{rooted, coversRank, judge}
 use Rattle.graph.specs.RankLaws.{tree-lists}
 use Rattle.graph.specs.Tree.{covers-means, judge-means}
-use Rattle.optimum.specs.Optimum.{Pair, both, IsPair, Matching, Rising, Falls, weight, deviation, Answer, chosen}
+use Rattle.optimum.specs.Optimum.{Pair, both, IsPair, Matching, Rising, Falls, weight, deviation, Answer}
 use Rattle.optimum.specs.PairLaws.{rising-apart, falls-weight}
 use Rattle.optimum.specs.Solve.{gap}
 use Rattle.optimum.specs.Distance.{distance-is}
 use Rattle.frame.specs.Job.{Job, graphOf, treeOf, costOf}
 use Rattle.frame.specs.Answers.{readAnswer, rankOf, pairHolds, noPair, pairsRise, pairsWeight, answerHolds, judgeRead, judgeAnswer, judgeTree}
 use Rattle.frame.specs.Meaning.{Accepted}
-use Rattle.frame.specs.AnswerMeaning.{AnswerOf, Certificate, Certified}
+use Rattle.frame.specs.AnswerMeaning.{Certificate, Certified}
 use Rattle.frame.specs.AnswerLayout.{layout-read, read-means}
 
 -- The sum of the new costs' differences from the old ones is their deviation.
@@ -56,7 +56,10 @@ ordered-of R x (y ∷ xs) h = (
 
 later-means : (p q : Pair) → ((ltb (p .tree) (q .tree) && not (eqb (p .spare) (q .spare))) ≡ true) ↔ Later p q
 later-means p q = (
-  λ h. (ltb-true (p .tree) (q .tree) (and-first (ltb (p .tree) (q .tree)) _ h), eqb-false (p .spare) (q .spare) (not-true _ (and-second (ltb (p .tree) (q .tree)) _ h))),
+  λ h. (
+    ltb-true (p .tree) (q .tree) (and-first (ltb (p .tree) (q .tree)) _ h),
+    eqb-false (p .spare) (q .spare) (not-true _ (and-second (ltb (p .tree) (q .tree)) _ h)),
+  ),
   λ h. rw (lt-ltb (p .tree) (q .tree) (h .0), ne-eqb (p .spare) (q .spare) (h .1)),
 )
 
@@ -162,7 +165,9 @@ module _ {g : Graph} (sound : Sound g) {tr : EdgeSet} {ranks : List ℕ} (lists 
             (covers-rank (p .spare) (p .tree) (i .spare-below) (i .tree-below) (i .tree-in) .1 (i .covers)))
             (lt-ltb _ _ l)
 
-    pairs-mean : (ps : List Pair) → (allBelow (length ps) (λ i. pairHolds g tr c ranks (getD ps i noPair)) ≡ true) ↔ ((p : Pair) → List·Memᴰ p ps → IsPair g tr p × (c (p .spare) < c (p .tree)))
+    pairs-mean :
+        (ps : List Pair) →
+        (allBelow (length ps) (λ i. pairHolds g tr c ranks (getD ps i noPair)) ≡ true) ↔ ((p : Pair) → List·Memᴰ p ps → IsPair g tr p × (c (p .spare) < c (p .tree)))
     pairs-mean ps = (
       λ h p m. let (i, l, e) = member-place noPair m in rw (← e) (pair-means (getD ps i noPair) .0 (all-at (length ps) _ h i l)),
       λ h. all-of (length ps) _ (λ i l. pair-means (getD ps i noPair) .1 (h (getD ps i noPair) (getD-member noPair ps i l))),
@@ -222,7 +227,8 @@ module _ {g : Graph} (sound : Sound g) {tr : EdgeSet} {ranks : List ℕ} (lists 
             and-both t₄ _
             (and-both t₃ _
             (and-both t₂ _
-            (and-both t₁ _ (eq-eqb _ _ (k .steps ∙ sym (gap-deviation g c (λ e. getD (a .costs) e 0)))) (judge-means sound lists tree (λ e. getD (a .costs) e 0) .1 (k .minimum)))
+            (and-both t₁ _ (eq-eqb _ _ (k .steps ∙ sym (gap-deviation g c (λ e. getD (a .costs) e 0))))
+            (judge-means sound lists tree (λ e. getD (a .costs) e 0) .1 (k .minimum)))
             (pairs-mean (a .pairs) .1 (λ p m. (k .matching .pairs p m, k .falls p m))))
             (rise-means (a .pairs) .1 (rising-later (a .pairs) (k .rising) (k .matching .apart))))
             (eq-eqb _ _ weighs)

@@ -12,17 +12,19 @@ use lib.Dec.{eqb}
 use lib.ListN.{length, getD, take, drop, length-append, length-drop, take-append-drop}
 use lib.Seq.{take-suc, take-length, take-append-seam, drop-append-seam, drop-append-add, getD-append-seam, drop-cons, ext-getD, length-take-le}
 use borrow.Author.Tests.{eqb-true, eq-eqb}
-use Rattle.loops.specs.Loop.{choose, gather, tabulate}
+use Rattle.loops.specs.Below.{choose}
+use Rattle.loops.specs.Loop.{gather, tabulate}
 use Rattle.loops.specs.GatherLaws.{length-tabulate, getD-tabulate}
-use Rattle.leb128.specs.Number.{Bytes, encode, Decoded, decode}
-use Rattle.leb128.specs.Number.Decoded.{number}
-use Rattle.leb128.specs.Laws.{bytes-drop, decode-encode, encode-decode, decode-bound}
+use Rattle.number.specs.Number.{Bytes, encode, Decoded, decode}
+use Rattle.number.specs.Number.Decoded.{number}
+use Rattle.number.specs.Laws.{bytes-drop, decode-encode, encode-decode, decode-bound}
 use Rattle.optimum.specs.Optimum.{Pair, both, Answer}
-use Rattle.frame.specs.Job.{stepBytes, bytesOf}
+use Rattle.limits.specs.Limits.{stepBytes}
+use Rattle.frame.specs.Job.{bytesOf}
 use Rattle.frame.specs.Questions.{numbers}
-use Rattle.frame.specs.Answers.{answerNumbers, answerFrame, pairFrom, pairsFrom, noPair, answerFrom, answerBehind, readAnswer}
+use Rattle.frame.specs.Answers.{pairFrom, pairsFrom, noPair, answerFrom, answerBehind, readAnswer}
 use Rattle.frame.specs.Meaning.{Small, Divides}
-use Rattle.frame.specs.AnswerMeaning.{AnswerOf}
+use Rattle.frame.specs.AnswerMeaning.{AnswerOf, answerNumbers, answerFrame}
 use Rattle.frame.specs.Division.{division, divide-complete}
 use Rattle.frame.specs.RoundTrip.{flatMap-append}
 
@@ -65,10 +67,19 @@ numbers-pairs ps =
 -- ---- the numbers behind the steps
 
 -- Numbers that are as many as there should be are the numbers of the answer made of them.
-made-numbers : (m steps : ℕ) (ns : List ℕ) → length ns ≡ m + 1 + 2 * getD ns m 0 → answerNumbers (record { steps = steps; costs = take m ns; pairs = pairsFrom m ns }) ≡ ns
+made-numbers :
+    (m steps : ℕ) (ns : List ℕ) →
+    length ns ≡ m + 1 + 2 * getD ns m 0 →
+    answerNumbers (record { steps = steps; costs = take m ns; pairs = pairsFrom m ns }) ≡ ns
 made-numbers m steps ns e =
     let rest : length (drop (suc m) ns) ≡ 2 * getD ns m 0 = omega (arith, length-drop (suc m) ns) in
-    rw (length-tabulate (pairFrom (drop (suc m) ns)) (getD ns m 0), twos-numbers (drop (suc m) ns) (getD ns m 0) (omega arith), ← rest, take-length (drop (suc m) ns), ← drop-cons ns m 0 (omega arith))
+    rw (
+      length-tabulate (pairFrom (drop (suc m) ns)) (getD ns m 0),
+      twos-numbers (drop (suc m) ns) (getD ns m 0) (omega arith),
+      ← rest,
+      take-length (drop (suc m) ns),
+      ← drop-cons ns m 0 (omega arith),
+    )
     (take-append-drop m ns)
 
 -- An answer is made of its own numbers.
@@ -85,7 +96,14 @@ numbers-made a =
 -- ---- the theorem
 
 module _ (m : ℕ) (s : List ℕ) (h : Bytes s) (a : Answer) where
-  made : (v n : ℕ) (ns : List ℕ) → decode stepBytes s ≡ number v n → Divides (drop n s) ns → (b : Bool) → eqb (length ns) (m + 1 + 2 * getD ns m 0) ≡ b → choose b (λ _. some (record { steps = v; costs = take m ns; pairs = pairsFrom m ns })) (λ _. none) ≡ some a → AnswerOf m s a
+  made :
+      (v n : ℕ) (ns : List ℕ) →
+      decode stepBytes s ≡ number v n →
+      Divides (drop n s) ns →
+      (b : Bool) →
+      eqb (length ns) (m + 1 + 2 * getD ns m 0) ≡ b →
+      choose b (λ _. some (record { steps = v; costs = take m ns; pairs = pairsFrom m ns })) (λ _. none) ≡ some a →
+      AnswerOf m s a
   made v n ns e d false t q = let z : _≡_ {A = ℕ} 0 1 = cc in absurd (omega arith)
   made v n ns e d true t q =
       let size : length ns ≡ m + 1 + 2 * getD ns m 0 = eqb-true (length ns) (m + 1 + 2 * getD ns m 0) t in
@@ -113,8 +131,13 @@ module _ (m : ℕ) (s : List ℕ) (h : Bytes s) (a : Answer) where
 pub read-frame : (a : Answer) → a .steps < 128 ^ stepBytes → Small (answerNumbers a) → readAnswer (length (a .costs)) (answerFrame a) ≡ some a
 unfolding answerBehind
 read-frame a l k =
-    let front : decode stepBytes (answerFrame a) ≡ number (a .steps) (length (encode stepBytes (a .steps))) = decode-encode stepBytes (a .steps) (bytesOf (answerNumbers a)) (omega arith) l in
-    rw (front, drop-append-seam (encode stepBytes (a .steps)) (bytesOf (answerNumbers a)), divide-complete (length (bytesOf (answerNumbers a))) (answerNumbers a) k (omega arith))
+    let front : decode stepBytes (answerFrame a) ≡ number (a .steps) (length (encode stepBytes (a .steps))) = decode-encode stepBytes (a .steps)
+    (bytesOf (answerNumbers a)) (omega arith) l in
+    rw (
+      front,
+      drop-append-seam (encode stepBytes (a .steps)) (bytesOf (answerNumbers a)),
+      divide-complete (length (bytesOf (answerNumbers a))) (answerNumbers a) k (omega arith),
+    )
     (numbers-made a)
 
 pub layout-read : {m : ℕ} {s : List ℕ} {a : Answer} → AnswerOf m s a → readAnswer m s ≡ some a

@@ -2,14 +2,22 @@
 -- Definitions only. Assumes nothing.
 use Prim.Native.Nat.{ℕ, _^_, _<_}
 use mathlib.Core.Path.{_≡_}
-use mathlib.Core.List.{List}
+use mathlib.Core.List.{List, _∷_, _++_, flatMap}
 use lib.IntN.{pos}
 use lib.ListN.{length}
+use Rattle.number.specs.Number.{encode}
 use Rattle.graph.specs.Graph.{Graph, EdgeSet, Minimum}
-use Rattle.optimum.specs.Optimum.{Matching, Rising, Falls, weight, deviation, Answer, chosen}
-use Rattle.frame.specs.Job.{Job, stepBytes, graphOf, treeOf, costOf}
-use Rattle.frame.specs.Answers.{answerNumbers, answerFrame}
+use Rattle.optimum.specs.Optimum.{both, Matching, Rising, Falls, weight, deviation, Answer, chosen}
+use Rattle.frame.specs.Job.{Job, bytesOf, graphOf, treeOf, costOf}
+use Rattle.limits.specs.Limits.{stepBytes}
 use Rattle.frame.specs.Meaning.{Small}
+
+-- The layout: the steps, one new cost for each link in link order, the count of pairs, the pairs, tree link first.
+abbrev pub answerNumbers : Answer → List ℕ
+answerNumbers a = a .costs ++ length (a .pairs) ∷ flatMap both (a .pairs)
+
+abbrev pub answerFrame : Answer → List ℕ
+answerFrame a = encode stepBytes (a .steps) ++ bytesOf (answerNumbers a)
 
 -- The frame s is laid out as the answer a to a job of m links, with nothing following.
 pub record AnswerOf (m : ℕ) (s : List ℕ) (a : Answer) : Type 0 where

@@ -1,27 +1,22 @@
--- Answer frames: their layout, the reader and the judge of those made elsewhere, as functions that compute.
+-- The answer to a job, the judge of its tree, and the reader and the judge of answer frames made elsewhere, as functions that compute.
 -- Definitions only. Assumes nothing.
-use Prim.Native.Nat.{ℕ, zero, suc, _+_, _*_, _-_}
-use mathlib.Core.Bool.{Bool, true, false, not, _&&_}
-use mathlib.Core.List.{List, [], _∷_, _++_, flatMap}
+use Prim.Native.Nat.{ℕ, suc, _+_, _*_, _-_}
+use mathlib.Core.Bool.{Bool, false, not, _&&_}
+use mathlib.Core.List.{List}
 use mathlib.Core.Option.{Option, some, none}
-use lib.Dec.{leb, ltb, eqb}
+use lib.Dec.{ltb, eqb}
 use lib.ListN.{length, getD, take, drop}
-use Rattle.loops.specs.Loop.{choose, first, sum, allBelow, tabulate}
-use Rattle.leb128.specs.Number.{Decoded, decode, encode}
-use Rattle.graph.specs.Graph.{Graph, EdgeSet}
-use Rattle.graph.specs.Rank.{spareOf, treeRanks}
+use Rattle.loops.specs.Below.{choose, sum, allBelow}
+use Rattle.loops.specs.Loop.{first, tabulate}
+use Rattle.number.specs.Number.{Decoded, decode}
+use Rattle.graph.specs.Graph.{Graph, EdgeSet, spareOf}
+use Rattle.graph.specs.Rank.{treeRanks}
 use Rattle.graph.specs.Paths.{rooted, coversRank, judge}
-use Rattle.optimum.specs.Optimum.{Pair, both, Answer}
+use Rattle.optimum.specs.Optimum.{Pair, Answer}
 use Rattle.optimum.specs.Solve.{gap, solve}
-use Rattle.frame.specs.Job.{Job, stepBytes, bytesOf, graphOf, treeOf, costOf}
+use Rattle.frame.specs.Job.{Job, graphOf, treeOf, costOf}
+use Rattle.limits.specs.Limits.{stepBytes}
 use Rattle.frame.specs.Questions.{numbers}
-
--- The layout: the steps, one new cost for each link in link order, the count of pairs, the pairs, tree link first.
-abbrev pub answerNumbers : Answer → List ℕ
-answerNumbers a = a .costs ++ length (a .pairs) ∷ flatMap both (a .pairs)
-
-abbrev pub answerFrame : Answer → List ℕ
-answerFrame a = encode stepBytes (a .steps) ++ bytesOf (answerNumbers a)
 
 -- The answer to a job.
 abbrev pub answerOf : Job → Answer

@@ -10,16 +10,19 @@ use lib.Dec.{ltb, eqb}
 use lib.ListN.{length, getD, take, drop, take-append-drop}
 use lib.Seq.{take-append-seam, drop-append-seam, split-at}
 use borrow.Author.Tests.{lt-ltb, le-ltb, eq-eqb, ne-eqb}
-use Rattle.leb128.specs.Number.{Bytes, encode}
+use Rattle.number.specs.Number.{Bytes, encode}
 use Rattle.optimum.specs.Optimum.{both, Answer}
-use Rattle.frame.specs.Job.{Edge, Job, noEdge, link, fields, numberBytes, stepBytes, jobNumbers, bytesOf, jobFrame}
-use Rattle.frame.specs.Questions.{numbers, edgeCount, jobOf, refusal}
-use Rattle.frame.specs.Answers.{answerNumbers, answerFrame, readAnswer, judgeAnswer}
-use Rattle.frame.specs.Services.{Place, linkOffset, linkLength, nowhere, placeWhen, partAt, linkPlace, linkPart, costOffset, costLength, noAnswer, costPlace, costPart}
+use Rattle.frame.specs.Job.{JobLink, Job, noLink, link, fields, jobNumbers, bytesOf, jobFrame}
+use Rattle.limits.specs.Limits.{numberBytes, stepBytes}
+use Rattle.frame.specs.Questions.{numbers, jobOf, refusal}
+use Rattle.frame.specs.Meaning.{edgeCount}
+use Rattle.frame.specs.Answers.{readAnswer, judgeAnswer}
+use Rattle.frame.specs.Services.{Place, linkOffset, linkLength, nowhere, partAt, costOffset, costLength}
+use Rattle.frame.specs.Replies.{placeWhen, linkPlace, linkPart, noAnswer, costPlace, costPart}
 use Rattle.frame.specs.Division.{division}
 use Rattle.frame.specs.RoundTrip.{flatMap-append}
 use Rattle.frame.specs.Accepted.{accepted, write-read6}
-use Rattle.frame.specs.AnswerMeaning.{AnswerOf}
+use Rattle.frame.specs.AnswerMeaning.{AnswerOf, answerNumbers, answerFrame}
 use Rattle.frame.specs.AnswerLayout.{layout-read}
 
 -- What stands behind xs and before zs.
@@ -29,7 +32,7 @@ between xs ys zs = rw drop-append-seam (take-append-seam ys zs)
 -- ---- links
 
 -- The four numbers of a link stand at its place.
-link-numbers : (ls : List Edge) (e : ℕ) → e < length ls → take 4 (drop (4 * e) (flatMap fields ls)) ≡ fields (getD ls e noEdge)
+link-numbers : (ls : List JobLink) (e : ℕ) → e < length ls → take 4 (drop (4 * e) (flatMap fields ls)) ≡ fields (getD ls e noLink)
 unfolding flatMap
 link-numbers [] e l = absurd (omega arith)
 link-numbers (k ∷ ls) zero l = refl
@@ -38,15 +41,22 @@ link-numbers (k ∷ ls) (suc e) l =
     rw four (link-numbers ls e (omega arith))
 
 -- The bytes of n numbers stand behind those of the numbers before them.
-numbers-between : (ns : List ℕ) (k n : ℕ) → take (length (bytesOf (take n (drop k ns)))) (drop (length (bytesOf (take k ns))) (bytesOf ns)) ≡ bytesOf (take n (drop k ns))
+numbers-between :
+    (ns : List ℕ) (k n : ℕ) →
+    take (length (bytesOf (take n (drop k ns)))) (drop (length (bytesOf (take k ns))) (bytesOf ns)) ≡ bytesOf (take n (drop k ns))
 numbers-between ns k n =
-    let front : bytesOf ns ≡ bytesOf (take k ns) ++ bytesOf (drop k ns) = ap bytesOf (sym (take-append-drop k ns)) ∙ flatMap-append (encode numberBytes) (take k ns) (drop k ns) in
-    let rest : bytesOf (drop k ns) ≡ bytesOf (take n (drop k ns)) ++ bytesOf (drop n (drop k ns)) = ap bytesOf (sym (take-append-drop n (drop k ns))) ∙ flatMap-append (encode numberBytes) (take n (drop k ns)) (drop n (drop k ns)) in
+    let front : bytesOf ns ≡ bytesOf (take k ns) ++ bytesOf (drop k ns) = ap bytesOf (sym (take-append-drop k ns)) ∙
+    flatMap-append (encode numberBytes) (take k ns) (drop k ns) in
+    let rest : bytesOf (drop k ns) ≡ bytesOf (take n (drop k ns)) ++ bytesOf (drop n (drop k ns)) = ap bytesOf (sym (take-append-drop n (drop k ns))) ∙
+    flatMap-append (encode numberBytes) (take n (drop k ns)) (drop n (drop k ns)) in
     subst (λ f. take (length (bytesOf (take n (drop k ns)))) (drop (length (bytesOf (take k ns))) f) ≡ bytesOf (take n (drop k ns)))
     (sym (front ∙ ap (λ t. bytesOf (take k ns) ++ t) rest))
     (between (bytesOf (take k ns)) (bytesOf (take n (drop k ns))) (bytesOf (drop n (drop k ns))))
 
-link-found : (j : Job) (e : ℕ) → e < length (j .links) → take (linkLength (jobNumbers j) e) (drop (linkOffset (jobNumbers j) e) (jobFrame j)) ≡ bytesOf (fields (link j e))
+link-found :
+    (j : Job) (e : ℕ) →
+    e < length (j .links) →
+    take (linkLength (jobNumbers j) e) (drop (linkOffset (jobNumbers j) e) (jobFrame j)) ≡ bytesOf (fields (link j e))
 link-found j e l =
     let two : 4 * e + 2 ≡ suc (suc (4 * e)) = omega arith in
     numbers-between (jobNumbers j) (4 * e + 2) 4
@@ -69,7 +79,8 @@ unfolding placeIn
 link-shown s e h r l =
     ap (λ ns. partAt (placeIn (refusal s) e ns) s) (accepted-numbers s h r)
     ∙ rw (eq-eqb (refusal s) 0 r, lt-ltb e (length (jobOf s .links)) l)
-    (subst (λ f. take (linkLength (jobNumbers (jobOf s)) e) (drop (linkOffset (jobNumbers (jobOf s)) e) f) ≡ bytesOf (fields (link (jobOf s) e))) (write-read6 s h r) (link-found (jobOf s) e l))
+    (subst (λ f. take (linkLength (jobNumbers (jobOf s)) e) (drop (linkOffset (jobNumbers (jobOf s)) e) f) ≡ bytesOf (fields (link (jobOf s) e)))
+    (write-read6 s h r) (link-found (jobOf s) e l))
 
 -- A link has no place if the job is refused, or the link number is not below the link count; its part is then empty.
 pub link-nowhere-refused : (r : ℕ) (s : List ℕ) (e : ℕ) → r ≢ 0 → linkPlace r s e ≡ nowhere
@@ -89,12 +100,19 @@ link-past s e h r l = ap (λ p. partAt p s) (link-nowhere-past s e h r l)
 
 -- ---- costs
 
-cost-found : (a : Answer) (e : ℕ) → e < length (a .costs) → take (costLength a e) (drop (costOffset a e) (answerFrame a)) ≡ encode numberBytes (getD (a .costs) e 0)
+cost-found :
+    (a : Answer) (e : ℕ) →
+    e < length (a .costs) →
+    take (costLength a e) (drop (costOffset a e) (answerFrame a)) ≡ encode numberBytes (getD (a .costs) e 0)
 unfolding flatMap
 cost-found a e l =
     let rest : List ℕ = drop (suc e) (a .costs) ++ length (a .pairs) ∷ flatMap both (a .pairs) in
-    let parts : answerNumbers a ≡ take e (a .costs) ++ getD (a .costs) e 0 ∷ rest = ap (λ t. t ++ length (a .pairs) ∷ flatMap both (a .pairs)) (split-at (a .costs) e 0 l) ∙ append-assoc (take e (a .costs)) (getD (a .costs) e 0 ∷ drop (suc e) (a .costs)) (length (a .pairs) ∷ flatMap both (a .pairs)) in
-    let frame : answerFrame a ≡ (encode stepBytes (a .steps) ++ bytesOf (take e (a .costs))) ++ (encode numberBytes (getD (a .costs) e 0) ++ bytesOf rest) = ap (λ t. encode stepBytes (a .steps) ++ t) (ap bytesOf parts ∙ flatMap-append (encode numberBytes) (take e (a .costs)) (getD (a .costs) e 0 ∷ rest)) ∙ sym (append-assoc (encode stepBytes (a .steps)) (bytesOf (take e (a .costs))) (bytesOf (getD (a .costs) e 0 ∷ rest))) in
+    let parts : answerNumbers a ≡ take e (a .costs) ++ getD (a .costs) e 0 ∷ rest = ap (λ t. t ++ length (a .pairs) ∷ flatMap both (a .pairs))
+    (split-at (a .costs) e 0 l) ∙ append-assoc (take e (a .costs)) (getD (a .costs) e 0 ∷ drop (suc e) (a .costs))
+    (length (a .pairs) ∷ flatMap both (a .pairs)) in
+    let frame : answerFrame a ≡ (encode stepBytes (a .steps) ++ bytesOf (take e (a .costs))) ++ (encode numberBytes (getD (a .costs) e 0) ++ bytesOf rest) = ap
+    (λ t. encode stepBytes (a .steps) ++ t) (ap bytesOf parts ∙ flatMap-append (encode numberBytes) (take e (a .costs)) (getD (a .costs) e 0 ∷ rest)) ∙
+    sym (append-assoc (encode stepBytes (a .steps)) (bytesOf (take e (a .costs))) (bytesOf (getD (a .costs) e 0 ∷ rest))) in
     ap (λ f. take (costLength a e) (drop (costOffset a e) f)) frame
     ∙ between (encode stepBytes (a .steps) ++ bytesOf (take e (a .costs))) (encode numberBytes (getD (a .costs) e 0)) (bytesOf rest)
 
@@ -120,7 +138,8 @@ module _ (s f : List ℕ) (e : ℕ) where
   cost-judged-no n = ap (λ p. partAt p f) (cost-nowhere-judged n)
 
   -- Else it hands back the answer's bytes of the link's new cost.
-  module _ (a : Answer) (r : refusal s ≡ 0) (l : e < length (jobOf s .links)) (y : judgeAnswer (jobOf s) f ≡ true) (k : AnswerOf (length (jobOf s .links)) f a) where
+  module _ (a : Answer) (r : refusal s ≡ 0) (l : e < length (jobOf s .links)) (y : judgeAnswer (jobOf s) f ≡ true)
+      (k : AnswerOf (length (jobOf s .links)) f a) where
     pub cost-placed : costPlace s f e ≡ record { offset = costOffset a e; size = costLength a e }
     cost-placed =
         let read : Option·getD (readAnswer (length (jobOf s .links)) f) noAnswer ≡ a = ap (λ o. Option·getD o noAnswer) (layout-read k) in

@@ -10,21 +10,26 @@ use mathlib.Core.Option.{Option, some}
 use lib.Dec.{leb, ltb, eqb}
 use lib.ListN.{length}
 use borrow.Author.Tests.{leb-true, ltb-true, eqb-true, eqb-false, le-leb, lt-ltb, eq-eqb, ne-eqb, not-true}
-use Rattle.loops.specs.Loop.{choose}
+use Rattle.loops.specs.Below.{choose}
 use Rattle.loops.specs.TestLaws.{truth, clash, and-first, and-second, all-at, all-of}
-use Rattle.leb128.specs.Number.{Bytes}
+use Rattle.number.specs.Number.{Bytes}
 use Rattle.graph.specs.Graph.{Sound}
 use Rattle.graph.specs.RankLaws.{tree-lists}
 use Rattle.graph.specs.Tree.{tree-means}
-use Rattle.frame.specs.Job.{Job, link, maxNodes, maxEdges, graphOf, treeOf, costOf}
-use Rattle.frame.specs.Questions.{numbers, nodeCount, edgeCount, jobFrom, question1, question2, question3, question4, question5, question6, ask, numberQuestions, formRefusal, refusal}
-use Rattle.frame.specs.Meaning.{Divides, Counted, Complete, EndsHold, MarksHold, TreeHolds, Formed, FirstNo}
+use Rattle.frame.specs.Job.{Job, link, graphOf, treeOf, costOf}
+use Rattle.limits.specs.Limits.{maxNodes, maxEdges}
+use Rattle.frame.specs.Questions.{numbers, question1, question2, question3, question4, question5, question6, ask, numberQuestions, formRefusal, refusal}
+use Rattle.frame.specs.Meaning.{Divides, Counted, Complete, EndsHold, MarksHold, TreeHolds, Formed, FirstNo, nodeCount, edgeCount, jobFrom}
 use Rattle.frame.specs.Meaning.FirstNo.{no1, no2, no3, no4, no5, no6, none}
 use Rattle.frame.specs.Division.{division}
 
 pub question2-means : (ns : List ℕ) → (question2 ns ≡ true) ↔ Counted ns
 unfolding question2
-question2-means ns = (λ h. holds h, λ h. rw (le-leb 2 (length ns) (h .two), le-leb 1 (nodeCount ns) (h .some-node), le-leb (nodeCount ns) maxNodes (h .node-limit)) (le-leb (edgeCount ns) maxEdges (h .edge-limit)))
+question2-means ns = (
+  λ h. holds h,
+  λ h. rw (le-leb 2 (length ns) (h .two), le-leb 1 (nodeCount ns) (h .some-node), le-leb (nodeCount ns) maxNodes (h .node-limit))
+      (le-leb (edgeCount ns) maxEdges (h .edge-limit)),
+)
   where
     two : Bool
     two = leb 2 (length ns)
@@ -59,9 +64,16 @@ question4-means j = (
   λ h. record {
     first = λ e l. ltb-true (link j e .end₁) (j .nodes) (and-first (below₁ e) (below₂ e) (and-first (below₁ e && below₂ e) (apart e) (at h e l)));
     second = λ e l. ltb-true (link j e .end₂) (j .nodes) (and-second (below₁ e) (below₂ e) (and-first (below₁ e && below₂ e) (apart e) (at h e l)));
-    differ = λ e l. eqb-false (link j e .end₁) (link j e .end₂) (not-true (eqb (link j e .end₁) (link j e .end₂)) (and-second (below₁ e && below₂ e) (apart e) (at h e l)));
+    differ =
+        λ e l. eqb-false (link j e .end₁) (link j e .end₂)
+        (not-true (eqb (link j e .end₁) (link j e .end₂)) (and-second (below₁ e && below₂ e) (apart e) (at h e l)));
   },
-  λ h. all-of (length (j .links)) (λ e. below₁ e && below₂ e && apart e) (λ e l. rw (lt-ltb (link j e .end₁) (j .nodes) (h .first e l), lt-ltb (link j e .end₂) (j .nodes) (h .second e l), ne-eqb (link j e .end₁) (link j e .end₂) (h .differ e l))),
+  λ h. all-of (length (j .links)) (λ e. below₁ e && below₂ e && apart e)
+      (λ e l. rw (
+        lt-ltb (link j e .end₁) (j .nodes) (h .first e l),
+        lt-ltb (link j e .end₂) (j .nodes) (h .second e l),
+        ne-eqb (link j e .end₁) (link j e .end₂) (h .differ e l),
+      )),
 )
   where
     below₁ : ℕ → Bool
@@ -126,7 +138,9 @@ module _ (s ns : List ℕ) (d : Divides s ns) where
       (λ n. rw n (no4 ns d h₂ h₃ (refutes (question4-means (jobFrom ns)) n)))
       (truth (question4 (jobFrom ns)))
 
-  turn3 : Counted ns → FirstNo s (ask (question3 ns) 3 λ _. ask (question4 (jobFrom ns)) 4 λ _. ask (question5 (jobFrom ns)) 5 λ _. ask (question6 (jobFrom ns)) 6 λ _. 0)
+  turn3 :
+      Counted ns →
+      FirstNo s (ask (question3 ns) 3 λ _. ask (question4 (jobFrom ns)) 4 λ _. ask (question5 (jobFrom ns)) 5 λ _. ask (question6 (jobFrom ns)) 6 λ _. 0)
   turn3 h₂ =
       ⊎-elim
       (λ y. rw y (turn4 h₂ (question3-means ns .0 y)))
@@ -143,7 +157,12 @@ module _ (s ns : List ℕ) (d : Divides s ns) where
 -- Numbers that pass questions 2 to 5.
 pub formed-pass : {s ns : List ℕ} → Formed s ns → (rest : Job → ℕ) → numberQuestions rest ns ≡ rest (jobFrom ns)
 formed-pass {ns = ns} f rest =
-    rw (question2-means ns .1 (f .counted), question3-means ns .1 (f .complete), question4-means (jobFrom ns) .1 (f .ends), question5-means (jobFrom ns) .1 (f .marks))
+    rw (
+      question2-means ns .1 (f .counted),
+      question3-means ns .1 (f .complete),
+      question4-means (jobFrom ns) .1 (f .ends),
+      question5-means (jobFrom ns) .1 (f .marks),
+    )
 
 turn1 : (s : List ℕ) → Bytes s → (r : Option (List ℕ)) → numbers s ≡ r → FirstNo s (question1 r (numberQuestions λ j. ask (question6 j) 6 λ _. 0))
 turn1 s h (some ns) e = turn2 s ns (division s ns h .0 e)
@@ -167,7 +186,11 @@ first-no-unique s r h (no4 ns d h₂ h₃ q) =
 first-no-unique s r h (no5 ns d h₂ h₃ h₄ q) =
     rw (division s ns h .1 d, question2-means ns .1 h₂, question3-means ns .1 h₃, question4-means (jobFrom ns) .1 h₄, refuted (question5-means (jobFrom ns)) q)
 first-no-unique s r h (no6 ns f q) =
-    rw (division s ns h .1 (f .divides), formed-pass f (λ j. ask (question6 j) 6 λ _. 0), refuted (question6-means (jobFrom ns) (f .counted .some-node) (f .ends)) q)
+    rw (
+      division s ns h .1 (f .divides),
+      formed-pass f (λ j. ask (question6 j) 6 λ _. 0),
+      refuted (question6-means (jobFrom ns) (f .counted .some-node) (f .ends)) q,
+    )
 first-no-unique s r h (none ns f t) =
     rw (division s ns h .1 (f .divides), formed-pass f (λ j. ask (question6 j) 6 λ _. 0), question6-means (jobFrom ns) (f .counted .some-node) (f .ends) .1 t)
 
@@ -175,7 +198,9 @@ first-no-unique s r h (none ns f t) =
 abbrev pub beforeTree : ℕ → ℕ
 beforeTree r = choose (ltb r 6) (λ _. r) (λ _. 0)
 
-first-five : (b₂ b₃ b₄ b₅ b₆ : Bool) → (ask b₂ 2 λ _. ask b₃ 3 λ _. ask b₄ 4 λ _. ask b₅ 5 λ _. 0) ≡ beforeTree (ask b₂ 2 λ _. ask b₃ 3 λ _. ask b₄ 4 λ _. ask b₅ 5 λ _. ask b₆ 6 λ _. 0)
+first-five :
+    (b₂ b₃ b₄ b₅ b₆ : Bool) →
+    (ask b₂ 2 λ _. ask b₃ 3 λ _. ask b₄ 4 λ _. ask b₅ 5 λ _. 0) ≡ beforeTree (ask b₂ 2 λ _. ask b₃ 3 λ _. ask b₄ 4 λ _. ask b₅ 5 λ _. ask b₆ 6 λ _. 0)
 first-five false b₃ b₄ b₅ b₆ = refl
 first-five true false b₄ b₅ b₆ = refl
 first-five true true false b₅ b₆ = refl

@@ -1,5 +1,5 @@
 -- A list of links is refused as its frame is, and a frame written of one reads as that list. Assumes nothing.
-use Prim.Native.Nat.{ℕ, suc, _*_, _<_, _≤_}
+use Prim.Native.Nat.{ℕ, suc, _+_, _*_, _-_, _<_, _≤_}
 use native.Mathlib.Omega.{arith}
 use mathlib.Core.Path.{_≡_, refl, sym, ap, _∙_}
 use mathlib.Core.Logic.{_⊎_, ⊎-elim}
@@ -9,19 +9,20 @@ use mathlib.Core.Option.{some}
 use lib.Dec.{leb}
 use lib.ListN.{length, getD, length-append}
 use borrow.Author.Tests.{leb-true, le-leb}
-use Rattle.loops.specs.Loop.{allBelow}
+use Rattle.loops.specs.Below.{allBelow}
 use Rattle.loops.specs.TestLaws.{and-first, and-second, all-at}
-use Rattle.leb128.specs.Number.{encode}
-use Rattle.leb128.specs.Laws.{encode-size-last, encode-size-most}
-use Rattle.frame.specs.Job.{Edge, Job, noEdge, link, fields, maxNodes, maxEdges, maxNumber, numberBytes, jobNumbers, bytesOf, jobFrame}
-use Rattle.frame.specs.Questions.{jobOf, numbers, question1, question2, question4, question5, ask, numberQuestions, formRefusal}
-use Rattle.frame.specs.Services.{smallEdge, small, counted, listQuestions, listFormRefusal}
+use Rattle.number.specs.Number.{encode}
+use Rattle.number.specs.Laws.{encode-size-last, encode-size-most}
+use Rattle.frame.specs.Job.{JobLink, Job, noLink, link, fields, jobNumbers, bytesOf, jobFrame}
+use Rattle.limits.specs.Limits.{maxNodes, maxEdges, maxNumber, numberBytes, jobMost}
+use Rattle.frame.specs.Questions.{jobOf, numbers, question1, question2, question4, question5, ask, numberQuestions, formRefusal, counted, listQuestions, listFormRefusal}
+use Rattle.frame.specs.Services.{smallNumbers, small}
 use Rattle.frame.specs.Meaning.{Small, Complete, EndsHold, MarksHold}
 use Rattle.frame.specs.Division.{small-cons, divide-complete}
 use Rattle.frame.specs.Form.{question3-means, question4-means, question5-means}
 use Rattle.frame.specs.RoundTrip.{flatMap-append, numbers-job}
 
-small-link : (l : Edge) → smallEdge l ≡ true → (rest : List ℕ) → Small rest → Small (fields l ++ rest)
+small-link : (l : JobLink) → smallNumbers l ≡ true → (rest : List ℕ) → Small rest → Small (fields l ++ rest)
 small-link l h rest k =
     small-cons (l .end₁) (l .end₂ ∷ l .cost ∷ l .mark ∷ rest) (leb-true (l .end₁) maxNumber (and-first a b ab))
     (small-cons (l .end₂) (l .cost ∷ l .mark ∷ rest) (leb-true (l .end₂) maxNumber (and-second a b ab))
@@ -46,7 +47,7 @@ small-link l h rest k =
     ab : (a && b) ≡ true
     ab = and-first (a && b) c abc
 
-small-links : (ls : List Edge) → ((e : ℕ) → e < length ls → smallEdge (getD ls e noEdge) ≡ true) → Small (flatMap fields ls)
+small-links : (ls : List JobLink) → ((e : ℕ) → e < length ls → smallNumbers (getD ls e noLink) ≡ true) → Small (flatMap fields ls)
 unfolding flatMap
 small-links [] h = λ i. omega arith
 small-links (l ∷ ls) h = small-link l (h 0 (omega arith)) (flatMap fields ls) (small-links ls (λ e k. h (suc e) (omega arith)))
@@ -56,7 +57,7 @@ unfolding small
 small-job j h =
     small-cons (j .nodes) (length (j .links) ∷ flatMap fields (j .links)) (leb-true (j .nodes) maxNumber (and-first n m nm))
     (small-cons (length (j .links)) (flatMap fields (j .links)) (leb-true (length (j .links)) maxNumber (and-second n m nm))
-    (small-links (j .links) (all-at (length (j .links)) (λ e. smallEdge (link j e)) (and-second (n && m) every h))))
+    (small-links (j .links) (all-at (length (j .links)) (λ e. smallNumbers (link j e)) (and-second (n && m) every h))))
   where
     n : Bool
     n = leb (j .nodes) maxNumber
@@ -65,7 +66,7 @@ small-job j h =
     m = leb (length (j .links)) maxNumber
 
     every : Bool
-    every = allBelow (length (j .links)) λ e. smallEdge (link j e)
+    every = allBelow (length (j .links)) λ e. smallNumbers (link j e)
 
     nm : (n && m) ≡ true
     nm = and-first (n && m) every h
@@ -74,7 +75,7 @@ small-job j h =
 pub list-numbers : (j : Job) → small j ≡ true → numbers (jobFrame j) ≡ some (jobNumbers j)
 list-numbers j h = divide-complete (length (jobFrame j)) (jobNumbers j) (small-job j h) (omega arith)
 
-length-fields : (ls : List Edge) → length (flatMap fields ls) ≡ 4 * length ls
+length-fields : (ls : List JobLink) → length (flatMap fields ls) ≡ 4 * length ls
 unfolding flatMap
 length-fields [] = refl
 length-fields (l ∷ ls) = omega (arith, length-fields ls)
@@ -126,29 +127,43 @@ read-write j h =
 pub counted-limits : (j : Job) → counted j ≡ true → (1 ≤ j .nodes) × (j .nodes ≤ maxNodes) × (length (j .links) ≤ maxEdges)
 unfolding counted
 counted-limits j h =
-    let low = and-first (leb 1 (j .nodes) && leb (j .nodes) maxNodes) (leb (length (j .links)) maxEdges) h in
-    (leb-true 1 (j .nodes) (and-first (leb 1 (j .nodes)) (leb (j .nodes) maxNodes) low), leb-true (j .nodes) maxNodes (and-second (leb 1 (j .nodes)) (leb (j .nodes) maxNodes) low), leb-true (length (j .links)) maxEdges (and-second (leb 1 (j .nodes) && leb (j .nodes) maxNodes) (leb (length (j .links)) maxEdges) h))
+    let low = and-first (leb 1 (j .nodes) && leb (j .nodes) maxNodes) (leb (length (j .links)) maxEdges) h in (
+      leb-true 1 (j .nodes) (and-first (leb 1 (j .nodes)) (leb (j .nodes) maxNodes) low),
+      leb-true (j .nodes) maxNodes (and-second (leb 1 (j .nodes)) (leb (j .nodes) maxNodes) low),
+      leb-true (length (j .links)) maxEdges (and-second (leb 1 (j .nodes) && leb (j .nodes) maxNodes) (leb (length (j .links)) maxEdges) h),
+    )
 
 mark-small : (m : ℕ) → (m ≡ 0) ⊎ (m ≡ 1) → m < 128
 mark-small m h = ⊎-elim (λ p. omega arith) (λ p. omega arith) h
 
--- A link takes at most five bytes, where its ends and its mark are below 128.
-link-size : (l : Edge) → l .end₁ < 128 → l .end₂ < 128 → l .mark < 128 → length (bytesOf (fields l)) ≤ 5
+-- A link takes a byte for each of its ends and for its mark, where these are below 128, and those of its cost.
+link-size : (l : JobLink) → l .end₁ < 128 → l .end₂ < 128 → l .mark < 128 → length (bytesOf (fields l)) ≤ 3 + numberBytes
 unfolding flatMap
 link-size l a b m =
-    simp length-append (omega (arith, encode-size-last 1 (l .end₁) a, encode-size-last 1 (l .end₂) b, encode-size-most 2 (l .cost), encode-size-last 1 (l .mark) m))
+    let one : (x : ℕ) → x < 128 → length (encode numberBytes x) ≡ 1 = encode-size-last (numberBytes - 1) in
+    simp length-append (omega (arith, one (l .end₁) a, one (l .end₂) b, encode-size-most numberBytes (l .cost), one (l .mark) m))
 
-links-size : (ls : List Edge) → ((e : ℕ) → e < length ls → length (bytesOf (fields (getD ls e noEdge))) ≤ 5) → length (bytesOf (flatMap fields ls)) ≤ 5 * length ls
+links-size :
+    (ls : List JobLink) →
+    ((e : ℕ) → e < length ls → length (bytesOf (fields (getD ls e noLink))) ≤ 3 + numberBytes) →
+    length (bytesOf (flatMap fields ls)) ≤ (3 + numberBytes) * length ls
 unfolding flatMap
 links-size [] h = omega arith
 links-size (l ∷ ls) h =
-    omega (arith, ap length (flatMap-append (encode numberBytes) (fields l) (flatMap fields ls)), length-append (bytesOf (fields l)) (bytesOf (flatMap fields ls)), h 0 (omega arith), links-size ls (λ e k. h (suc e) (omega arith)))
+    omega (
+      arith,
+      ap length (flatMap-append (encode numberBytes) (fields l) (flatMap fields ls)),
+      length-append (bytesOf (fields l)) (bytesOf (flatMap fields ls)),
+      h 0 (omega arith),
+      links-size ls (λ e k. h (suc e) (omega arith)),
+    )
 
 -- The longest job has 1,283 bytes.
-pub longest : (j : Job) → listFormRefusal j ≡ 0 → length (jobFrame j) ≤ 1283
+pub longest : (j : Job) → listFormRefusal j ≡ 0 → length (jobFrame j) ≤ jobMost
 unfolding flatMap
 longest j h =
     let q = listed j h in
     let limits = counted-limits j (q .counted) in
-    let links = links-size (j .links) (λ e k. link-size (link j e) (omega (arith, q .ends .first e k)) (omega (arith, q .ends .second e k)) (mark-small (link j e .mark) (q .marks e k))) in
-    simp length-append (omega (arith, encode-size-last 1 (j .nodes) (omega arith), encode-size-most 2 (length (j .links))))
+    let links = links-size (j .links) (λ e k.
+    link-size (link j e) (omega (arith, q .ends .first e k)) (omega (arith, q .ends .second e k)) (mark-small (link j e .mark) (q .marks e k))) in
+    simp length-append (omega (arith, encode-size-last (numberBytes - 1) (j .nodes) (omega arith), encode-size-most numberBytes (length (j .links))))

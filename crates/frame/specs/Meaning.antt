@@ -1,22 +1,47 @@
--- What the questions mean, in document 01's words, and which of them is the first with the answer "no".
+-- The job that a frame's numbers make, what the questions mean, in document 01's words, and which is the first with the answer "no".
 -- Definitions only. Assumes nothing.
 use Prim.Native.Nat.{ℕ, _+_, _*_, _<_, _≤_}
 use mathlib.Core.Path.{_≡_}
 use mathlib.Core.Logic.{_≢_, _⊎_}
-use mathlib.Core.List.{List}
-use lib.ListN.{length, getD}
+use mathlib.Core.List.{List, [], _∷_}
+use lib.ListN.{length, getD, drop}
 use Rattle.graph.specs.Graph.{Sound, SpanningTree}
-use Rattle.frame.specs.Job.{Job, link, maxNodes, maxEdges, maxNumber, jobNumbers, bytesOf, graphOf, treeOf}
-use Rattle.frame.specs.Questions.{nodeCount, edgeCount, jobFrom}
+use Rattle.frame.specs.Job.{JobLink, Job, link, jobNumbers, bytesBy, graphOf, treeOf}
+use Rattle.limits.specs.Limits.{maxNodes, maxEdges, numberBytes, largest}
 
--- Numbers of at most 16,383.
+-- The job of a list of numbers: the two counts, then the links.
+abbrev pub nodeCount : List ℕ → ℕ
+nodeCount ns = getD ns 0 0
+
+abbrev pub edgeCount : List ℕ → ℕ
+edgeCount ns = getD ns 1 0
+
+-- Each four numbers make a link.
+unfoldable pub linksOf : List ℕ → List JobLink
+linksOf [] = []
+linksOf (a ∷ []) = []
+linksOf (a ∷ b ∷ []) = []
+linksOf (a ∷ b ∷ c ∷ []) = []
+linksOf (a ∷ b ∷ c ∷ m ∷ ns) = record { end₁ = a; end₂ = b; cost = c; mark = m } ∷ linksOf ns
+
+abbrev pub jobFrom : List ℕ → Job
+jobFrom ns = record { nodes = nodeCount ns; links = linksOf (drop 2 ns) }
+
+-- Numbers that fit into k bytes each; those of a job: at most 16,383.
+abbrev pub SmallBy : ℕ → List ℕ → Type 0
+SmallBy k ns = (i : ℕ) → getD ns i 0 ≤ largest k
+
 abbrev pub Small : List ℕ → Type 0
-Small ns = (i : ℕ) → getD ns i 0 ≤ maxNumber
+Small ns = SmallBy numberBytes ns
+
+-- The bytes s divide into the whole numbers ns, each in shortest form of at most k bytes.
+pub record DividesBy (k : ℕ) (s ns : List ℕ) : Type 0 where
+  pub small : SmallBy k ns
+  pub joined : bytesBy k ns ≡ s
 
 -- 1. The frame divides into whole numbers, each in shortest form of one or two bytes.
-pub record Divides (s ns : List ℕ) : Type 0 where
-  pub small : Small ns
-  pub joined : bytesOf ns ≡ s
+abbrev pub Divides : List ℕ → List ℕ → Type 0
+Divides s ns = DividesBy numberBytes s ns
 
 -- 2. There are at least two numbers, the first 1 to 64, the second 0 to 256.
 pub record Counted (ns : List ℕ) : Type 0 where

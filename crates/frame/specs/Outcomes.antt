@@ -3,14 +3,13 @@
 use Prim.Native.Nat.{ℕ, zero, suc, _+_, _<_, _≤_}
 use native.Mathlib.Omega.{arith}
 use native.Mathlib.Decide.{decLe}
-use mathlib.Core.Path.{_≡_, refl, ap}
-use mathlib.Core.Logic.{_≢_}
+use mathlib.Core.Path.{_≡_, refl, sym, ap, subst, _∙_}
+use mathlib.Core.Logic.{_≢_, _⊎_, inl, inr, ⊎-elim}
 use mathlib.Core.List.{List, _++_}
 use lib.ListN.{length, take, drop}
-use lib.Seq.{sets-eq}
+use lib.Seq.{sets-eq, take-append-seam, drop-append-seam}
 use borrow.Author.Tests.{le-leb, lt-leb}
-use Rattle.frame.specs.Questions.{refusal}
-use Rattle.frame.specs.Services.{Outcome, written}
+use Rattle.frame.specs.Services.{Outcome, written, Served}
 
 module _ (bytes : List ℕ) (at : ℕ) (area : List ℕ) where
   -- A refusal by an earlier question.
@@ -23,7 +22,9 @@ module _ (bytes : List ℕ) (at : ℕ) (area : List ℕ) where
   written-short l = rw (lt-leb (at + length bytes) (length area) l)
 
   -- Success.
-  pub written-done : at + length bytes ≤ length area → written 0 bytes at area ≡ record { refusal = 0; size = length bytes; area = take at area ++ bytes ++ drop (at + length bytes) area }
+  pub written-done :
+      at + length bytes ≤ length area →
+      written 0 bytes at area ≡ record { refusal = 0; size = length bytes; area = take at area ++ bytes ++ drop (at + length bytes) area }
   written-done l = rw (le-leb (at + length bytes) (length area) l, sets-eq bytes area at l)
 
   -- Whatever the refusal, no byte is changed and the length is 0.
@@ -37,9 +38,50 @@ module _ (bytes : List ℕ) (at : ℕ) (area : List ℕ) where
   ]
 
   -- Without a refusal the bytes are written.
-  pub accepted-written : (r : ℕ) → written r bytes at area .refusal ≡ 0 → written r bytes at area ≡ record { refusal = 0; size = length bytes; area = take at area ++ bytes ++ drop (at + length bytes) area }
+  pub accepted-written :
+      (r : ℕ) →
+      written r bytes at area .refusal ≡ 0 →
+      written r bytes at area ≡ record { refusal = 0; size = length bytes; area = take at area ++ bytes ++ drop (at + length bytes) area }
   accepted-written (suc r) h = absurd (omega arith)
   accepted-written zero h = elim (decLe (at + length bytes) (length area)) [
     | yes l ↦ written-done l
     | no l ↦ absurd (omega (arith, h, ap (λ (o : Outcome). o .refusal) (written-short (omega arith))))
   ]
+
+-- A service whose outcome is `written` keeps what `Served` promises.
+module _ (earlier : ℕ) (bytes area : List ℕ) where
+  number-of :
+      (n : ℕ) → (written n bytes 0 area .refusal ≡ n) ⊎ ((n ≡ 0) × (written n bytes 0 area .refusal ≡ 7) × (length area < length bytes))
+  number-of zero =
+      elim (decLe (length bytes) (length area)) [
+        | yes l ↦ inl (ap (λ (o : Outcome). o .refusal) (written-done bytes 0 area (omega arith)))
+        | no l ↦ inr (refl, ap (λ (o : Outcome). o .refusal) (written-short bytes 0 area (omega arith)), omega arith)
+      ]
+  number-of (suc n) = inl refl
+
+  whole : Served earlier bytes area (written earlier bytes 0 area)
+  whole =
+      record {
+        said = refl;
+        number = number-of earlier;
+        refused = refused-untouched bytes 0 area earlier;
+        front = λ z. ap (λ (o : Outcome). take (o .size) (o .area)) (done z) ∙ take-append-seam bytes (drop (0 + length bytes) area);
+        rest = λ z.
+            ap (λ (o : Outcome). drop (o .size) (o .area)) (done z) ∙ drop-append-seam bytes (drop (0 + length bytes) area) ∙
+            ap (λ (n : ℕ). drop n area) first ∙ sym (ap (λ (o : Outcome). drop (o .size) area) (done z));
+      }
+    where
+      first : 0 + length bytes ≡ length bytes
+      first = omega arith
+
+      done :
+          written earlier bytes 0 area .refusal ≡ 0 →
+          written earlier bytes 0 area ≡ record { refusal = 0; size = length bytes; area = bytes ++ drop (0 + length bytes) area }
+      done z = accepted-written bytes 0 area earlier z
+
+  pub served-of : (o : Outcome) → o ≡ written earlier bytes 0 area → Served earlier bytes area o
+  served-of o e = subst (Served earlier bytes area) (sym e) whole
+
+-- Where there was no refusal there was none earlier.
+pub served-none : {earlier : ℕ} {bytes area : List ℕ} {o : Outcome} → Served earlier bytes area o → o .refusal ≡ 0 → earlier ≡ 0
+served-none k z = ⊎-elim (λ q. sym q ∙ z) (λ q. q .0) (k .number)

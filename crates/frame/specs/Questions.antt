@@ -1,49 +1,41 @@
--- The questions put to a job frame, each to the whole frame before the next, as functions that compute.
+-- The questions put to a job frame or to a list of links, each to the whole before the next, as functions that compute.
 -- Definitions only. Assumes nothing.
 use Prim.Native.Nat.{ℕ, zero, suc, _+_, _*_}
 use mathlib.Core.Bool.{Bool, not, _&&_}
 use mathlib.Core.List.{List, [], _∷_}
 use mathlib.Core.Option.{Option, some, none, Option·map, Option·getD}
 use lib.Dec.{leb, ltb, eqb}
-use lib.ListN.{length, getD, drop}
-use Rattle.loops.specs.Loop.{choose, allBelow}
-use Rattle.leb128.specs.Number.{Decoded, decode}
+use lib.ListN.{length, drop}
+use Rattle.loops.specs.Below.{choose, allBelow}
+use Rattle.number.specs.Number.{Decoded, decode}
 use Rattle.graph.specs.Rank.{treeRanks}
 use Rattle.graph.specs.Paths.{isTree}
-use Rattle.frame.specs.Job.{Edge, Job, link, maxNodes, maxEdges, numberBytes, graphOf, treeOf, costOf}
+use Rattle.frame.specs.Job.{Job, link, graphOf, treeOf, costOf}
+use Rattle.limits.specs.Limits.{maxNodes, maxEdges, numberBytes}
+use Rattle.frame.specs.Meaning.{nodeCount, edgeCount, jobFrom}
+use Rattle.frame.specs.Services.{small}
 
 -- A number in front of what follows it.
 unfoldable pub front : (List ℕ → Option (List ℕ)) → List ℕ → Decoded → Option (List ℕ)
 front rest s (Decoded.number v n) = Option·map (v ∷_) (rest (drop n s))
 front rest s Decoded.none = none
 
--- The numbers into which a frame divides, if it does. The first number bounds how many.
-unfoldable pub divide : ℕ → List ℕ → Option (List ℕ)
-divide zero [] = some []
-divide zero (b ∷ s) = none
-divide (suc k) [] = some []
-divide (suc k) (b ∷ s) = front (λ s′. divide k s′) (b ∷ s) (decode numberBytes (b ∷ s))
+-- The numbers of at most k bytes each into which a list of bytes divides, if it does; at most `most` numbers.
+unfoldable pub divideUpTo : ℕ → ℕ → List ℕ → Option (List ℕ)
+divideUpTo k zero [] = some []
+divideUpTo k zero (b ∷ s) = none
+divideUpTo k (suc most) [] = some []
+divideUpTo k (suc most) (b ∷ s) = front (λ s′. divideUpTo k most s′) (b ∷ s) (decode k (b ∷ s))
+
+abbrev pub divideBy : ℕ → List ℕ → Option (List ℕ)
+divideBy k s = divideUpTo k (length s) s
+
+-- Those of a job frame.
+abbrev pub divide : ℕ → List ℕ → Option (List ℕ)
+divide most s = divideUpTo numberBytes most s
 
 abbrev pub numbers : List ℕ → Option (List ℕ)
-numbers s = divide (length s) s
-
--- The job of a list of numbers: the two counts, then the links.
-abbrev pub nodeCount : List ℕ → ℕ
-nodeCount ns = getD ns 0 0
-
-abbrev pub edgeCount : List ℕ → ℕ
-edgeCount ns = getD ns 1 0
-
--- Each four numbers make a link.
-unfoldable pub linksOf : List ℕ → List Edge
-linksOf [] = []
-linksOf (a ∷ []) = []
-linksOf (a ∷ b ∷ []) = []
-linksOf (a ∷ b ∷ c ∷ []) = []
-linksOf (a ∷ b ∷ c ∷ m ∷ ns) = record { end₁ = a; end₂ = b; cost = c; mark = m } ∷ linksOf ns
-
-abbrev pub jobFrom : List ℕ → Job
-jobFrom ns = record { nodes = nodeCount ns; links = linksOf (drop 2 ns) }
+numbers s = divideBy numberBytes s
 
 abbrev pub jobOf : List ℕ → Job
 jobOf s = jobFrom (Option·getD (numbers s) [])
@@ -94,3 +86,18 @@ formRefusal s = question1 (numbers s) (numberQuestions λ _. 0)
 
 abbrev pub refusal : List ℕ → ℕ
 refusal s = question1 (numbers s) (numberQuestions λ j. ask (question6 j) 6 λ _. 0)
+
+-- Question 2, put to a list of links.
+unfoldable pub counted : Job → Bool
+counted j = leb 1 (j .nodes) && leb (j .nodes) maxNodes && leb (length (j .links)) maxEdges
+
+-- Questions 1 to 5, put to a list of links, and then what `rest` says.
+abbrev pub listQuestions : (Job → ℕ) → Job → ℕ
+listQuestions rest j =
+    ask (small j) 1 λ _. ask (counted j) 2 λ _. ask (question4 j) 4 λ _. ask (question5 j) 5 λ _. rest j
+
+abbrev pub listFormRefusal : Job → ℕ
+listFormRefusal j = listQuestions (λ _. 0) j
+
+abbrev pub listRefusal : Job → ℕ
+listRefusal j = listQuestions (λ j. ask (question6 j) 6 λ _. 0) j

@@ -5,10 +5,10 @@ use native.Mathlib.Omega.{arith}
 use mathlib.Core.Path.{_≡_, refl, sym, ap, _∙_}
 use mathlib.Core.List.{List, [], _∷_, _++_, flatMap, append-assoc}
 use lib.ListN.{length, drop, length-drop}
-use Rattle.leb128.specs.Number.{Bytes}
-use Rattle.frame.specs.Job.{Edge, Job, fields, jobNumbers, bytesOf, jobFrame}
-use Rattle.frame.specs.Questions.{linksOf, nodeCount, edgeCount, jobFrom, jobOf, formRefusal, refusal}
-use Rattle.frame.specs.Meaning.{Divides, Complete, Formed, FirstNo}
+use Rattle.number.specs.Number.{Bytes}
+use Rattle.frame.specs.Job.{JobLink, Job, fields, jobNumbers, bytesOf, jobFrame}
+use Rattle.frame.specs.Questions.{jobOf, formRefusal, refusal}
+use Rattle.frame.specs.Meaning.{Divides, Complete, Formed, FirstNo, linksOf, nodeCount, edgeCount, jobFrom}
 use Rattle.frame.specs.Meaning.FirstNo.{no1, no2, no3, no4, no5, no6, none}
 use Rattle.frame.specs.Division.{division}
 use Rattle.frame.specs.Form.{first-no, beforeTree, form-refusal}
@@ -39,10 +39,10 @@ links-numbers (suc m) (a ∷ b ∷ []) e = absurd (omega arith)
 links-numbers (suc m) (a ∷ b ∷ c ∷ []) e = absurd (omega arith)
 links-numbers (suc m) (a ∷ b ∷ c ∷ k ∷ ns) e = ap (λ (r : List ℕ). a ∷ b ∷ c ∷ k ∷ r) (links-numbers m ns (omega arith))
 
-numbers-links : (ls : List Edge) → linksOf (flatMap fields ls) ≡ ls
+numbers-links : (ls : List JobLink) → linksOf (flatMap fields ls) ≡ ls
 unfolding flatMap linksOf
 numbers-links [] = refl
-numbers-links (l ∷ ls) = ap (λ (r : List Edge). l ∷ r) (numbers-links ls)
+numbers-links (l ∷ ls) = ap (λ (r : List JobLink). l ∷ r) (numbers-links ls)
 
 numbers-split : (ns : List ℕ) → 2 ≤ length ns → nodeCount ns ∷ edgeCount ns ∷ drop 2 ns ≡ ns
 numbers-split [] l = absurd (omega arith)
@@ -58,7 +58,7 @@ job-numbers ns l e =
 
 -- The job of a job's numbers is that job.
 pub numbers-job : (j : Job) → jobFrom (jobNumbers j) ≡ j
-numbers-job j = ap (λ (ls : List Edge). record { nodes = j .nodes; links = ls }) (numbers-links (j .links))
+numbers-job j = ap (λ (ls : List JobLink). record { nodes = j .nodes; links = ls }) (numbers-links (j .links))
 
 -- The numbers of a frame that passes questions 1 to 5.
 formed-of : (s : List ℕ) (r : ℕ) → FirstNo s r → beforeTree r ≡ 0 → (ns : List ℕ) × Formed s ns
@@ -81,3 +81,10 @@ pub write-read : (s : List ℕ) → Bytes s → formRefusal s ≡ 0 → jobFrame
 write-read s h e =
     let (ns, f) = formed s h e in
     ap jobFrame (job-of s ns h (f .divides)) ∙ ap bytesOf (job-numbers ns (f .counted .two) (f .complete)) ∙ f .divides .joined
+
+-- A frame that passes questions 1 to 5 has at most 256 links.
+pub links-few : (s : List ℕ) → Bytes s → formRefusal s ≡ 0 → length (jobOf s .links) ≤ 256
+links-few s b z =
+    let (ns, f) = formed s b z in
+    let four : length (drop 2 ns) ≡ 4 * edgeCount ns = omega (arith, length-drop 2 ns, f .complete) in
+    omega (arith, ap (λ j. length (j .links)) (job-of s ns b (f .divides)), length-links (edgeCount ns) (drop 2 ns) four, f .counted .edge-limit)

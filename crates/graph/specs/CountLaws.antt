@@ -7,7 +7,8 @@ use mathlib.Core.Path.{_≡_, refl, sym, ap, _∙_}
 use mathlib.Core.Logic.{_≢_, inl, inr}
 use mathlib.Core.Bool.{Bool, true, false, cond, true≢false}
 use lib.IntN.{ℤ, pos, _+ℤ_}
-use Rattle.loops.specs.Loop.{put, sum}
+use Rattle.loops.specs.Loop.{put}
+use Rattle.loops.specs.Below.{sum}
 use Rattle.loops.specs.PutLaws.{put-same, put-other}
 use Rattle.loops.specs.FirstLaws.{member-or-none}
 use Rattle.loops.specs.FoldLaws.{fold, fold-same, fold-change}
@@ -40,14 +41,20 @@ total-sum (suc m) S d = ap (λ n. n +ℤ cond (S m) (d m) (pos 0)) (total-sum m 
 
 pub total-same : (m : ℕ) (S U : EdgeSet) (d : ℕ → ℤ) → ((i : ℕ) → i < m → S i ≡ U i) → total m S d ≡ total m U d
 total-same m S U d h =
-    rw (total-sum m S d, total-sum m U d) (fold-same _+ℤ_ (pos 0) m (λ j. cond (S j) (d j) (pos 0)) (λ j. cond (U j) (d j) (pos 0)) (λ j l. ap (λ b. cond b (d j) (pos 0)) (h j l)))
+    rw (total-sum m S d, total-sum m U d) (fold-same _+ℤ_ (pos 0) m (λ j. cond (S j) (d j) (pos 0)) (λ j. cond (U j) (d j) (pos 0))
+    (λ j l. ap (λ b. cond b (d j) (pos 0)) (h j l)))
 
-pub total-put : (m : ℕ) (S : EdgeSet) (d : ℕ → ℤ) (i : ℕ) (b : Bool) → i < m → total m (put S i b) d +ℤ cond (S i) (d i) (pos 0) ≡ total m S d +ℤ cond b (d i) (pos 0)
+pub total-put :
+    (m : ℕ) (S : EdgeSet) (d : ℕ → ℤ) (i : ℕ) (b : Bool) →
+    i < m →
+    total m (put S i b) d +ℤ cond (S i) (d i) (pos 0) ≡ total m S d +ℤ cond b (d i) (pos 0)
 total-put m S d i b k = rw (put-same S i b) at changed
   where
     changed : total m (put S i b) d +ℤ cond (S i) (d i) (pos 0) ≡ total m S d +ℤ cond (put S i b i) (d i) (pos 0)
     changed =
-        rw (total-sum m (put S i b) d, total-sum m S d) (fold-change _+ℤ_ (pos 0) +ℤ-swap m (λ j. cond (put S i b j) (d j) (pos 0)) (λ j. cond (S j) (d j) (pos 0)) i k (λ j l e. ap (λ c. cond c (d j) (pos 0)) (put-other S i b j e)))
+        rw (total-sum m (put S i b) d, total-sum m S d)
+        (fold-change _+ℤ_ (pos 0) +ℤ-swap m (λ j. cond (put S i b j) (d j) (pos 0)) (λ j. cond (S j) (d j) (pos 0)) i k
+        (λ j l e. ap (λ c. cond c (d j) (pos 0)) (put-other S i b j e)))
 
 -- Subsets.
 one-within : (b c : Bool) → (b ≡ true → c ≡ true) → cond b 1 0 ≤ cond c 1 0
@@ -71,14 +78,19 @@ count-within m S U h = rw (count-sum m S, count-sum m U) (sum-le m (λ i. cond (
 -- A subset with as many members is the whole set.
 pub count-squeeze : (m : ℕ) (S U : EdgeSet) → ((i : ℕ) → i < m → S i ≡ true → U i ≡ true) → count m S ≡ count m U → (i : ℕ) → i < m → S i ≡ U i
 count-squeeze m S U h e i k =
-    one-same (S i) (U i) (sum-squeeze m (λ i. cond (S i) 1 0) (λ i. cond (U i) 1 0) (λ i k. one-within (S i) (U i) (h i k)) (omega (arith, count-sum m S, count-sum m U)) i k)
+    one-same (S i) (U i) (sum-squeeze m (λ i. cond (S i) 1 0) (λ i. cond (U i) 1 0) (λ i k. one-within (S i) (U i) (h i k))
+    (omega (arith, count-sum m S, count-sum m U)) i k)
 
 -- A set that lies in another but for one member has at most one more.
 pub count-but-one : (m : ℕ) (S U : EdgeSet) (x : ℕ) → ((i : ℕ) → i < m → i ≢ x → S i ≡ true → U i ≡ true) → count m S ≤ suc (count m U)
 unfolding count
 count-but-one zero S U x h = omega arith
 count-but-one (suc m) S U x h =
-    elim (ℕ-discrete m x) [ yes e ↦ omega (arith, count-within m S U (λ i k. h i (omega arith) (omega arith)), one-small (S m)) | no d ↦ omega (arith, count-but-one m S U x (λ i k. h i (omega arith)), one-within (S m) (U m) (h m (omega arith) d)) ]
+    elim (ℕ-discrete m x) [
+      | yes e ↦ omega (arith, count-within m S U (λ i k. h i (omega arith) (omega arith)), one-small (S m))
+      | no d ↦ omega
+          (arith, count-but-one m S U x (λ i k. h i (omega arith)), one-within (S m) (U m) (h m (omega arith) d))
+    ]
 
 pub count-none : (m : ℕ) (S : EdgeSet) → ((i : ℕ) → i < m → S i ≡ false) → count m S ≡ 0
 count-none m S h = count-sum m S ∙ sum-zero m (λ i. cond (S i) 1 0) (λ i k. rw (h i k))
@@ -100,4 +112,9 @@ count-full m S e = count-squeeze m S (λ i. true) (λ i k t. refl) (e ∙ sym (c
 -- A set all of whose members are one and the same has at most one.
 pub count-one : (m : ℕ) (S : EdgeSet) → ((i j : ℕ) → i < m → j < m → S i ≡ true → S j ≡ true → i ≡ j) → count m S ≤ 1
 count-one m S h =
-    elim (member-or-none m S) [ inl r ↦ omega (arith, count-but-one m S (λ i. false) (r .0) (λ i k d t. absurd (d (h i (r .0) k (r .1) t (r .2)))), count-none m (λ i. false) (λ i k. refl)) | inr n ↦ omega (arith, count-none m S n) ]
+    elim (member-or-none m S) [
+      | inl r ↦ omega
+          (arith, count-but-one m S (λ i. false) (r .0) (λ i k d t. absurd (d (h i (r .0) k (r .1) t (r .2)))), count-none m (λ i. false) (λ i k. refl))
+      | inr n
+          ↦ omega (arith, count-none m S n)
+    ]

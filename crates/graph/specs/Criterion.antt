@@ -42,7 +42,13 @@ outside-none S tr e h s = inside (tr e) (rw s at h)
     inside false p = absurd (true≢false p)
 
 -- Swapping an edge outside tr for one of tr leaves one edge fewer outside tr.
-outside-swap : (m : ℕ) (S tr : EdgeSet) (s t : ℕ) → s < m → S s ≡ true → tr s ≡ false → tr t ≡ true → suc (count m (outside (swap S s t) tr)) ≡ count m (outside S tr)
+outside-swap :
+    (m : ℕ) (S tr : EdgeSet) (s t : ℕ) →
+    s < m →
+    S s ≡ true →
+    tr s ≡ false →
+    tr t ≡ true →
+    suc (count m (outside (swap S s t) tr)) ≡ count m (outside S tr)
 unfolding outside
 outside-swap m S tr s t k i o j =
     omega (arith, rw (swap-out S s t apart, i, o) at (count-change m (outside (swap S s t) tr) (outside S tr) s k same))
@@ -51,7 +57,12 @@ outside-swap m S tr s t k i o j =
     apart p = member-differs tr t s j o (sym p)
 
     same : (e : ℕ) → e < m → e ≢ s → outside (swap S s t) tr e ≡ outside S tr e
-    same e l n = elim (ℕ-discrete e t) [ yes p ↦ rw (p, j) (and-false (swap S s t t) ∙ sym (and-false (S t))) | no h ↦ ap (λ b. b && not (tr e)) (swap-other S s t e n h) ]
+    same e l n =
+        elim (ℕ-discrete e t) [
+          | yes p ↦ rw (p, j) (and-false (swap S s t t) ∙ sym (and-false (S t)))
+          | no h ↦ ap (λ b. b && not (tr e))
+              (swap-other S s t e n h)
+        ]
 
 module _ {g : Graph} (sound : Sound g) {tr : EdgeSet} (tree : SpanningTree g tr) (d : ℕ → ℤ) where
   -- A minimum passes the test: a tree edge could be swapped for any edge that covers it.
@@ -61,7 +72,8 @@ module _ {g : Graph} (sound : Sound g) {tr : EdgeSet} (tree : SpanningTree g tr)
       cheaper : (t < g .edges) × (tr t ≡ true) → d t ≤ℤ d s
       cheaper (l, i) =
           let cut : Cut g tr t (tree-side g tr t) = tree-cut tree l i in
-          exchange (swap-total (g .edges) tr t s l k i o d) .0 (least (swap tr t s) (swap-tree sound tree l k cut (side-changes cut (c .walk) (c .simple) (c .holds)) i o v))
+          exchange (swap-total (g .edges) tr t s l k i o d) .0
+          (least (swap tr t s) (swap-tree sound tree l k cut (side-changes cut (c .walk) (c .simple) (c .holds)) i o v))
 
   -- An edge s of a spanning tree S outside tr covers an edge of tr outside S that lies between the two sides of s.
   record Partner (S : EdgeSet) (s : ℕ) : Type 0 where
@@ -83,18 +95,36 @@ module _ {g : Graph} (sound : Sound g) {tr : EdgeSet} (tree : SpanningTree g tr)
       along : Simple g tr (g .end₁ s) (g .end₂ s) → Partner S s
       along r =
           let (t, m, q) = crossing (tree-side g S s) (r .1) (cut .itself) in
-          record { edge = t; covered = record { path = r .0; walk = r .1; simple = r .2; holds = m }; absent = missing t (walk-member (r .1) m) q (S t) refl; between = q }
+          record {
+            edge = t;
+            covered = record { path = r .0; walk = r .1; simple = r .2; holds = m };
+            absent = missing t (walk-member (r .1) m) q (S t) refl;
+            between = q;
+          }
 
   -- A tree that passes the test is minimum: swap the edges outside it for tree edges that cost no more, one by one.
   module _ (test : Test g tr d) where
-    closer : (S : EdgeSet) → SpanningTree g S → (s : ℕ) → s < g .edges → S s ≡ true → tr s ≡ false → (U : EdgeSet) × SpanningTree g U × (suc (count (g .edges) (outside U tr)) ≡ count (g .edges) (outside S tr)) × (total (g .edges) U d ≤ℤ total (g .edges) S d)
+    closer :
+        (S : EdgeSet) →
+        SpanningTree g S →
+        (s : ℕ) →
+        s < g .edges →
+        S s ≡ true →
+        tr s ≡ false →
+        (U : EdgeSet) × SpanningTree g U × (suc (count (g .edges) (outside U tr)) ≡ count (g .edges) (outside S tr)) × (total (g .edges) U d ≤ℤ total (g .edges) S d)
     closer S other s k i o = by (partner S other s k i o)
       where
-        by : Partner S s → (U : EdgeSet) × SpanningTree g U × (suc (count (g .edges) (outside U tr)) ≡ count (g .edges) (outside S tr)) × (total (g .edges) U d ≤ℤ total (g .edges) S d)
+        by :
+            Partner S s →
+            (U : EdgeSet) × SpanningTree g U × (suc (count (g .edges) (outside U tr)) ≡ count (g .edges) (outside S tr)) × (total (g .edges) U d ≤ℤ total (g .edges) S d)
         by p =
             let t : ℕ = p .edge in
-            let (l, j) = walk-member (p .covered .walk) (p .covered .holds) in
-            (swap S s t, swap-tree sound other k l (tree-cut other k i) (p .between) i (p .absent) (tree .usable t l j), outside-swap (g .edges) S tr s t k i o j, exchange (sym (swap-total (g .edges) S s t k l i (p .absent) d)) .1 (test s t k (other .usable s k i) o (p .covered)))
+            let (l, j) = walk-member (p .covered .walk) (p .covered .holds) in (
+              swap S s t,
+              swap-tree sound other k l (tree-cut other k i) (p .between) i (p .absent) (tree .usable t l j),
+              outside-swap (g .edges) S tr s t k i o j,
+              exchange (sym (swap-total (g .edges) S s t k l i (p .absent) d)) .1 (test s t k (other .usable s k i) o (p .covered)),
+            )
 
     descend : (n : ℕ) (S : EdgeSet) → SpanningTree g S → count (g .edges) (outside S tr) < n → total (g .edges) tr d ≤ℤ total (g .edges) S d
     descend zero S other h = absurd (omega arith)

@@ -1,9 +1,9 @@
--- Graphs, walks, spanning trees, minimum spanning trees, covered edges. Definitions only. Assumes nothing.
+-- Graphs, sets of edges, walks, spanning trees, minimum spanning trees, covered edges. Definitions only. Assumes nothing.
 -- Nodes and edges are numbered apart: a node is a number below `nodes`, an edge one below `edges`.
 use Prim.Native.Nat.{ℕ, zero, suc, _+_, _<_}
 use mathlib.Core.Path.{_≡_}
 use mathlib.Core.Logic.{_≢_}
-use mathlib.Core.Bool.{Bool, true, cond}
+use mathlib.Core.Bool.{Bool, true, cond, not, _&&_}
 use mathlib.Core.List.{List, [], _∷_, List·Memᴰ}
 use lib.IntN.{ℤ, pos, _+ℤ_}
 use lib.Signed.{_≤ℤ_}
@@ -26,6 +26,10 @@ pub record Sound (g : Graph) : Type 0 where
 -- A set of edges. What it says at or past `edges` never counts.
 abbrev pub EdgeSet : Type 0
 EdgeSet = ℕ → Bool
+
+-- Non-tree edges ("spare links"): usable and not in the tree.
+abbrev pub spareOf : Graph → EdgeSet → EdgeSet
+spareOf g tr e = g .live e && not (tr e)
 
 -- Edge e leads from node u to node v, in one of its two directions.
 pub data Leads (g : Graph) (e u v : ℕ) : Type 0 where

@@ -31,8 +31,11 @@ gap (negsuc a) (pos b) h =
 
     rest : b + suc a - suc a ≡ b
     rest = omega arith
-gap (negsuc a) (negsuc b) h =
-    (a - b, cond-both (λ z. z ≡ negsuc b) (ltb (a - b) (suc a)) _ _ (λ t. ap negsuc (rest (leb→le b a (h .le)))) (λ t. absurd (short (ltb-false (a - b) (suc a) t))))
+gap (negsuc a) (negsuc b) h = (
+  a - b,
+  cond-both (λ z. z ≡ negsuc b) (ltb (a - b) (suc a)) _ _ (λ t. ap negsuc (rest (leb→le b a (h .le))))
+      (λ t. absurd (short (ltb-false (a - b) (suc a) t))),
+)
   where
     short : suc a ≤ a - b → ⊥
     short k = omega arith

@@ -52,7 +52,11 @@ merge-second L a b = elim (ℕ-discrete (L b) (L a)) [ yes e ↦ merge-first L a
 module _ (g : Graph) (S : EdgeSet) where
   merged-joined : (L : ℕ → ℕ) (a b : ℕ) → Joined g S a b → ((v : ℕ) → Joined g S v (L v)) → (v : ℕ) → Joined g S v (merge L a b v)
   merged-joined L a b j h v =
-      elim (ℕ-discrete (L v) (L a)) [ yes e ↦ rw (merge-first L a b v e) (joined-trans (rw e at (h v)) (joined-trans (joined-sym (h a)) (joined-trans j (h b)))) | no d ↦ rw (merge-other L a b v d) (h v) ]
+      elim (ℕ-discrete (L v) (L a)) [
+        | yes e ↦ rw (merge-first L a b v e)
+            (joined-trans (rw e at (h v)) (joined-trans (joined-sym (h a)) (joined-trans j (h b))))
+        | no d ↦ rw (merge-other L a b v d) (h v)
+      ]
 
   labels-joined : (m : ℕ) → m ≤ g .edges → (v : ℕ) → Joined g S v (labels g S m v)
   unfolding labels
@@ -69,7 +73,9 @@ module _ (g : Graph) (S : EdgeSet) where
   labels-edge (suc m) e k s = elim (last-or-below k) [ inl p ↦ here (rw p at s) p | inr l ↦ before (S m) refl (labels-edge m e l s) ]
     where
       here : S m ≡ true → e ≡ m → labels g S (suc m) (g .end₁ e) ≡ labels g S (suc m) (g .end₂ e)
-      here s p = rw (p, labels-in g S m s) (merge-first (labels g S m) (g .end₁ m) (g .end₂ m) (g .end₁ m) refl ∙ sym (merge-second (labels g S m) (g .end₁ m) (g .end₂ m)))
+      here s p =
+          rw (p, labels-in g S m s) (merge-first (labels g S m) (g .end₁ m) (g .end₂ m) (g .end₁ m) refl ∙
+          sym (merge-second (labels g S m) (g .end₁ m) (g .end₂ m)))
 
       before : (b : Bool) → S m ≡ b → labels g S m (g .end₁ e) ≡ labels g S m (g .end₂ e) → labels g S (suc m) (g .end₁ e) ≡ labels g S (suc m) (g .end₂ e)
       before true s h = rw (labels-in g S m s) (merge-same (labels g S m) (g .end₁ m) (g .end₂ m) (g .end₁ e) (g .end₂ e) h)
@@ -86,7 +92,8 @@ module _ (g : Graph) (S : EdgeSet) where
 
   pub joined-label : (u v : ℕ) → Joined g S u v ↔ (label g S u ≡ label g S v)
   unfolding label
-  joined-label u v = (λ j. label-walk (j .1), λ e. joined-trans (rw e at (labels-joined (g .edges) (omega arith) u)) (joined-sym (labels-joined (g .edges) (omega arith) v)))
+  joined-label u v =
+      (λ j. label-walk (j .1), λ e. joined-trans (rw e at (labels-joined (g .edges) (omega arith) u)) (joined-sym (labels-joined (g .edges) (omega arith) v)))
 
 -- ---- counting: the nodes that are labelled by themselves are at most one fewer for each edge
 
@@ -117,4 +124,9 @@ module _ (g : Graph) (S : EdgeSet) where
   pub counting : ((u v : ℕ) → u < g .nodes → v < g .nodes → Joined g S u v) → g .nodes ≤ suc (count (g .edges) S)
   unfolding label
   counting j =
-      omega (arith, roots-left (g .edges) (g .nodes), count-one (g .nodes) (roots (label g S)) (λ u v k l s t. sym (root-label (label g S) u .0 s) ∙ joined-label g S u v .0 (j u v k l) ∙ root-label (label g S) v .0 t))
+      omega (
+        arith,
+        roots-left (g .edges) (g .nodes),
+        count-one (g .nodes) (roots (label g S))
+            (λ u v k l s t. sym (root-label (label g S) u .0 s) ∙ joined-label g S u v .0 (j u v k l) ∙ root-label (label g S) v .0 t),
+      )

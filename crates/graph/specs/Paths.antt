@@ -5,9 +5,9 @@ use mathlib.Core.Bool.{Bool, true, false, cond, not, xor, _&&_, _||_}
 use mathlib.Core.List.{List}
 use lib.Dec.{leb, ltb, eqb}
 use lib.ListN.{length, getD}
-use Rattle.loops.specs.Loop.{scan, choose, put, allBelow, first}
-use Rattle.graph.specs.Graph.{Graph, EdgeSet}
-use Rattle.graph.specs.Rank.{spareOf}
+use Rattle.loops.specs.Loop.{scan, put, first}
+use Rattle.loops.specs.Below.{choose, allBelow}
+use Rattle.graph.specs.Graph.{Graph, EdgeSet, spareOf}
 
 -- What has been found from node 0: how many nodes, which, and of each the ranks of the tree edges on its path to node 0.
 pub record Rooted : Type 0 where

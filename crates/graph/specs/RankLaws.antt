@@ -10,12 +10,13 @@ use native.Mathlib.Decide.{ℕ-discrete}
 use lib.Dec.{leb}
 use lib.ListN.{length, getD, length-append}
 use borrow.Author.Tests.{leb-true, leb-false}
-use Rattle.loops.specs.Loop.{sum, gather}
+use Rattle.loops.specs.Below.{sum}
+use Rattle.loops.specs.Loop.{gather}
 use Rattle.loops.specs.SumLaws.{sum-same, sumOver, sum-over}
-use Rattle.loops.specs.Ordered.{Ordered, ordered-at, ordered-unique, getD-member, member-place}
+use Rattle.loops.specs.Ordered.{Ordered, ordered-at, getD-member, member-place}
 use Rattle.loops.specs.GatherLaws.{gather-has, gather-from, gather-ordered, gather-sum}
-use Rattle.graph.specs.Graph.{Graph, EdgeSet, NoneTwice, count}
-use Rattle.graph.specs.Rank.{insert, sorted, members, spareOf, treeRanks, spareRanks, Lists}
+use Rattle.graph.specs.Graph.{Graph, EdgeSet, NoneTwice, count, spareOf}
+use Rattle.graph.specs.Rank.{insert, sorted, members, treeRanks, spareRanks, Lists}
 
 -- Insertion.
 module _ (before : ℕ → ℕ → Bool) (x : ℕ) where
@@ -271,9 +272,6 @@ module _ {before : ℕ → ℕ → Bool} {May : ℕ → ℕ → Type 0} (test : 
             λ q. omega (arith, h .number (test .trans y z x (k .cost) q), k .number (test .trans z x y q (h .cost)));
       }
 
-  ahead-one-way : (x y : ℕ) → Ahead May x y → Ahead May y x → ⊥
-  ahead-one-way x y h k = omega (arith, h .number (k .cost), k .number (h .cost))
-
   module _ (m : ℕ) (S : EdgeSet) where
     ranks-ordered : Ordered (Ahead May) (ranks before m S)
     ranks-ordered =
@@ -289,20 +287,7 @@ module _ {before : ℕ → ℕ → Bool} {May : ℕ → ℕ → Type 0} (test : 
       | no q ↦ ordered-at (Ahead May) 0 (ranks before m S) i j ranks-ordered (omega arith) l .cost
     ]
 
-    ranks-unique :
-        (xs : List ℕ) → Ordered (Ahead May) xs → ((e : ℕ) → List·Memᴰ e xs ↔ ((e < m) × (S e ≡ true)))
-        → xs ≡ ranks before m S
-    ranks-unique xs o same =
-        ordered-unique (Ahead May) ahead-one-way xs (ranks before m S) o ranks-ordered
-        (λ e k. ranks-member before m S e .1 (same e .0 k)) (λ e k. same e .1 (ranks-member before m S e .0 k))
-
 -- Tree edges stand by falling cost, non-tree edges by rising cost; of equal costs the lower number first.
-abbrev pub Dearer : (ℕ → ℕ) → ℕ → ℕ → Type 0
-Dearer c = Ahead (λ x y. c y ≤ c x)
-
-abbrev pub Cheaper : (ℕ → ℕ) → ℕ → ℕ → Type 0
-Cheaper c = Ahead (λ x y. c x ≤ c y)
-
 abbrev pub byFalling : (ℕ → ℕ) → ℕ → ℕ → Bool
 byFalling c x y = leb (c y) (c x)
 
@@ -343,14 +328,3 @@ module _ (g : Graph) (tr : EdgeSet) (c : ℕ → ℕ) where
       (s s′ : ℕ) → s ≤ s′ → s′ < length (spareRanks g tr c)
       → c (getD (spareRanks g tr c) s 0) ≤ c (getD (spareRanks g tr c) s′ 0)
   spare-rises = ranks-may (rising c) (g .edges) (spareOf g tr)
-
-  -- A list of the same edges in the same order is the list of ranks.
-  pub tree-unique :
-      (xs : List ℕ) → Ordered (Dearer c) xs → ((e : ℕ) → List·Memᴰ e xs ↔ ((e < g .edges) × (tr e ≡ true)))
-      → xs ≡ treeRanks g tr c
-  tree-unique = ranks-unique (falling c) (g .edges) tr
-
-  pub spare-unique :
-      (xs : List ℕ) → Ordered (Cheaper c) xs
-      → ((e : ℕ) → List·Memᴰ e xs ↔ ((e < g .edges) × (spareOf g tr e ≡ true))) → xs ≡ spareRanks g tr c
-  spare-unique = ranks-unique (rising c) (g .edges) (spareOf g tr)

@@ -39,14 +39,23 @@ module _ {g : Graph} {S : EdgeSet} {t : ℕ} {side : ℕ → Bool} (c : Cut g S 
       ]
 
 -- s covers t exactly when the ends of s lie on different sides of t.
-pub covers-side : (g : Graph) (tr : EdgeSet) (t : ℕ) (side : ℕ → Bool) → Cut g tr t side → (s : ℕ) → Joined g tr (g .end₁ s) (g .end₂ s) → Covers g tr s t ↔ (side (g .end₁ s) ≢ side (g .end₂ s))
+pub covers-side :
+    (g : Graph) (tr : EdgeSet) (t : ℕ) (side : ℕ → Bool) →
+    Cut g tr t side →
+    (s : ℕ) →
+    Joined g tr (g .end₁ s) (g .end₂ s) →
+    Covers g tr s t ↔ (side (g .end₁ s) ≢ side (g .end₂ s))
 covers-side g tr t side c s j = (λ v. side-changes c (v .walk) (v .simple) (v .holds), λ d. covered d (simple-walk (j .1)))
   where
     covered : side (g .end₁ s) ≢ side (g .end₂ s) → Simple g tr (g .end₁ s) (g .end₂ s) → Covers g tr s t
     covered d r = elim (member? t (r .0)) [ yes m ↦ record { path = r .0; walk = r .1; simple = r .2; holds = m } | no n ↦ absurd (d (side-stays c (r .1) n)) ]
 
 -- A walk between different sides takes an edge whose ends lie on different sides.
-pub crossing : {g : Graph} {S : EdgeSet} {u v : ℕ} {es : List ℕ} (side : ℕ → Bool) → Walk g S u v es → side u ≢ side v → (t : ℕ) × List·Memᴰ t es × (side (g .end₁ t) ≢ side (g .end₂ t))
+pub crossing :
+    {g : Graph} {S : EdgeSet} {u v : ℕ} {es : List ℕ} (side : ℕ → Bool) →
+    Walk g S u v es →
+    side u ≢ side v →
+    (t : ℕ) × List·Memᴰ t es × (side (g .end₁ t) ≢ side (g .end₂ t))
 crossing side stop d = absurd (d refl)
 crossing {u} side (step {e} {v = w} k s l x) d =
     elim (Bool-discrete (side u) (side w)) [

@@ -62,7 +62,8 @@ module _ (m : ℕ) (S : EdgeSet) (e f : ℕ) (k : e < m) (l : f < m) (s : S e �
       added : total m (put (put S e false) f true) d ≡ total m (put S e false) d +ℤ d f
       added = rw (absent, +ℤ-idr (total m (put (put S e false) f true) d)) at (total-put m (put S e false) d f true l)
 
-module _ {g : Graph} (sound : Sound g) {S : EdgeSet} (tree : SpanningTree g S) {e f : ℕ} (k : e < g .edges) (l : f < g .edges) {side : ℕ → Bool} (c : Cut g S e side) (d : side (g .end₁ f) ≢ side (g .end₂ f)) where
+module _ {g : Graph} (sound : Sound g) {S : EdgeSet} (tree : SpanningTree g S) {e f : ℕ} (k : e < g .edges) (l : f < g .edges) {side : ℕ → Bool}
+    (c : Cut g S e side) (d : side (g .end₁ f) ≢ side (g .end₂ f)) where
   same-side : (u v : ℕ) → u < g .nodes → v < g .nodes → side u ≡ side v → Joined g (swap S e f) u v
   same-side u v a b p = without (simple-walk (tree .joins u v a b .1))
     where
@@ -74,18 +75,34 @@ module _ {g : Graph} (sound : Sound g) {S : EdgeSet} (tree : SpanningTree g S) {
   ends-joined =
       elim (Bool-discrete (side (g .end₁ e)) (side (g .end₁ f))) [
         | yes p ↦ over (forth refl refl) (sound .first f l) (sound .second f l) p (λ q. d (sym p ∙ q))
-        | no h ↦ over (back refl refl) (sound .second f l) (sound .first f l) (third-side (side (g .end₁ f)) (side (g .end₁ e)) (side (g .end₂ f)) (λ q. h (sym q)) d) h
+        | no h ↦ over (back refl refl) (sound .second f l) (sound .first f l)
+            (third-side (side (g .end₁ f)) (side (g .end₁ e)) (side (g .end₂ f)) (λ q. h (sym q)) d) h
       ]
     where
-      over : {x y : ℕ} → Leads g f x y → x < g .nodes → y < g .nodes → side (g .end₁ e) ≡ side x → side (g .end₁ e) ≢ side y → Joined g (swap S e f) (g .end₁ e) (g .end₂ e)
+      over :
+          {x y : ℕ} →
+          Leads g f x y →
+          x < g .nodes →
+          y < g .nodes →
+          side (g .end₁ e) ≡ side x →
+          side (g .end₁ e) ≢ side y →
+          Joined g (swap S e f) (g .end₁ e) (g .end₂ e)
       over {x} {y} r a b p h =
-          joined-trans (same-side (g .end₁ e) x (sound .first e k) a p) (joined-trans (joined-edge l (swap-in S e f) r) (same-side y (g .end₂ e) b (sound .second e k) (third-side (side (g .end₁ e)) (side y) (side (g .end₂ e)) h (c .itself))))
+          joined-trans (same-side (g .end₁ e) x (sound .first e k) a p)
+          (joined-trans (joined-edge l (swap-in S e f) r)
+          (same-side y (g .end₂ e) b (sound .second e k) (third-side (side (g .end₁ e)) (side y) (side (g .end₂ e)) h (c .itself))))
 
   edge-joined : (i : ℕ) → i < g .edges → S i ≡ true → Joined g (swap S e f) (g .end₁ i) (g .end₂ i)
   edge-joined i a s = elim (ℕ-discrete i e) [ yes p ↦ rw p ends-joined | no h ↦ joined-edge a (swap-keeps S e f i h s) (forth refl refl) ]
 
   pub swap-tree : S e ≡ true → S f ≡ false → g .live f ≡ true → SpanningTree g (swap S e f)
-  swap-tree s o v = record { usable = usable; size = ap suc (swap-count (g .edges) S e f k l s o) ∙ tree .size; joins = λ u w a b. joined-through edge-joined (tree .joins u w a b) }
+  swap-tree s o v =
+      record {
+        usable = usable;
+        size = ap suc (swap-count (g .edges) S e f k l s o) ∙
+            tree .size;
+        joins = λ u w a b. joined-through edge-joined (tree .joins u w a b);
+      }
     where
       usable : (i : ℕ) → i < g .edges → swap S e f i ≡ true → g .live i ≡ true
       usable i a t =

@@ -16,8 +16,8 @@ use Rattle.loops.specs.PutLaws.{put-same, put-other, put-kept, put-split}
 use Rattle.loops.specs.ScanLaws.{scan-keeps}
 use Rattle.loops.specs.FirstLaws.{First, first-is}
 use Rattle.loops.specs.TestLaws.{truth, clash, cond-both, choose-both, and-first, and-second, and-both, and-miss, or-either, or-means, xor-means, all-at, all-of}
-use Rattle.graph.specs.Graph.{Graph, Sound, EdgeSet, Leads, forth, back, Joined, count, SpanningTree, Minimum, Covers}
-use Rattle.graph.specs.Rank.{spareOf, Lists}
+use Rattle.graph.specs.Graph.{Graph, Sound, EdgeSet, Leads, forth, back, Joined, count, SpanningTree, Minimum, Covers, spareOf}
+use Rattle.graph.specs.Rank.{Lists}
 use Rattle.graph.specs.Paths.{Rooted, root, attach, grow, touches, tryAt, expand, waits, expandAll, rooted, isTree, coversRank, judge}
 use Rattle.graph.specs.Integers.{pos-le, le-pos}
 use Rattle.graph.specs.CountLaws.{member-differs, count-put, count-none, count-all, count-below, count-full}
@@ -100,7 +100,8 @@ module _ (st : Rooted) (u v k : ℕ) (a : st .reached u ≡ true) (b : st .reach
       record {
         here = put-kept (st .reached) v u a;
         there = put-same (st .reached) v true;
-        itself = λ r. not-differs (st .path u k) (sym (ap (λ f. f k) (path-kept u a)) ∙ r ∙ ap (λ f. f k) path-new ∙ put-same (st .path u) k (not (st .path u k)));
+        itself =
+            λ r. not-differs (st .path u k) (sym (ap (λ f. f k) (path-kept u a)) ∙ r ∙ ap (λ f. f k) path-new ∙ put-same (st .path u) k (not (st .path u k)));
         others = λ j d. ap (λ f. f j) (path-kept u a) ∙ sym (ap (λ f. f j) path-new ∙ put-other (st .path u) k (not (st .path u k)) j d);
       }
 
@@ -109,12 +110,21 @@ module _ {g : Graph} (sound : Sound g) {tr : EdgeSet} {ranks : List ℕ} (lists 
   leads-below {e} l (forth p q) = rw q at (sound .second e l)
   leads-below {e} l (back p q) = rw q at (sound .first e l)
 
-  grown-attach : {st : Rooted} {u v k : ℕ} → k < length ranks → Leads g (getD ranks k 0) u v → st .reached u ≡ true → st .reached v ≡ false → Grown g tr ranks st → Grown g tr ranks (attach u v k st)
+  grown-attach :
+      {st : Rooted} {u v k : ℕ} →
+      k < length ranks →
+      Leads g (getD ranks k 0) u v →
+      st .reached u ≡ true →
+      st .reached v ≡ false →
+      Grown g tr ranks st →
+      Grown g tr ranks (attach u v k st)
   grown-attach {st} {u} {v} {k} l way a b h =
       record {
         size = omega (arith, h .size, rw b at (count-put (g .nodes) (st .reached) v true (leads-below (lists .below k l) way)));
         start = put-kept (st .reached) v 0 (h .start);
-        joined = λ w r. elim (put-split (st .reached) v w r) [ inl e ↦ rw e (joined-trans (joined-edge (lists .below k l) (lists .inside k l) (leads-back way)) (h .joined u a)) | inr o ↦ h .joined w o ];
+        joined =
+            λ w r. elim (put-split (st .reached) v w r)
+            [ inl e ↦ rw e (joined-trans (joined-edge (lists .below k l) (lists .inside k l) (leads-back way)) (h .joined u a)) | inr o ↦ h .joined w o ];
         used = put (h .used) k true;
         one-more = omega (arith, h .one-more, rw (fresh (h .used k) refl) at (count-put (length ranks) (h .used) k true l));
         ends = ends;
@@ -179,7 +189,14 @@ module _ (g : Graph) (ranks : List ℕ) where
     scan-both k turns i st both = scan-keeps _ (Both g ranks k) turns i st both (λ j s l m p. (try-kept j _ s (p .0), try-kept j _ s (p .1)))
 
     -- All neighbours of an expanded node have been reached.
-    expand-both : (turns i : ℕ) (st : Rooted) → st .reached v ≡ true → (k : ℕ) → i ≤ k → k < i + turns → touches g ranks v k ≡ true → Both g ranks k (scan (tryAt g ranks v) turns i st)
+    expand-both :
+        (turns i : ℕ) (st : Rooted) →
+        st .reached v ≡ true →
+        (k : ℕ) →
+        i ≤ k →
+        k < i + turns →
+        touches g ranks v k ≡ true →
+        Both g ranks k (scan (tryAt g ranks v) turns i st)
     unfolding scan
     expand-both zero i st h k l m t = absurd (omega arith)
     expand-both (suc turns) i st h k l m t =
@@ -211,7 +228,11 @@ module _ {g : Graph} (sound : Sound g) {tr : EdgeSet} {ranks : List ℕ} (lists 
       scan-keeps (tryAt g ranks v) (Grown g tr ranks) (length ranks) 0 st h
       (λ k s l m p. cond-both (Grown g tr ranks) (touches g ranks v k) _ _ (λ _. grown-step sound lists (omega arith) (grew g ranks k s) p) (λ _. p))
 
-  expanded-more : (done : ℕ → Bool) (v : ℕ) (st : Rooted) → st .reached v ≡ true → Expanded g ranks done st → Expanded g ranks (put done v true) (expand g ranks v st)
+  expanded-more :
+      (done : ℕ → Bool) (v : ℕ) (st : Rooted) →
+      st .reached v ≡ true →
+      Expanded g ranks done st →
+      Expanded g ranks (put done v true) (expand g ranks v st)
   expanded-more done v st r h w k d l t =
       elim (put-split done v w d) [
         | inl e ↦ expand-both g ranks v (length ranks) 0 st r k (omega arith) (omega arith) (rw e at t)
@@ -223,7 +244,8 @@ module _ {g : Graph} (sound : Sound g) {tr : EdgeSet} {ranks : List ℕ} (lists 
   all-closed done st h full k l =
       let e : ℕ = getD ranks k 0 in
       let all : count (g .nodes) done ≡ g .nodes = omega (arith, count-below (g .nodes) done) in
-      let both : Both g ranks k st = h (g .end₁ e) k (count-full (g .nodes) done all (g .end₁ e) (sound .first e (lists .below k l))) l (touches-first g ranks k) in
+      let both : Both g ranks k st = h (g .end₁ e) k (count-full (g .nodes) done all (g .end₁ e) (sound .first e (lists .below k l))) l
+      (touches-first g ranks k) in
       both .0 ∙ sym (both .1)
 
   -- No node waits.
@@ -324,9 +346,15 @@ module _ {g : Graph} (sound : Sound g) {tr : EdgeSet} {ranks : List ℕ} (lists 
           rw (← p) (all-ends tree j m .others k (λ q. d (sym p ∙ ap (λ i. getD ranks i 0) (sym q))))
 
   -- An edge covers a tree edge exactly when the paths of its ends differ at that rank.
-  pub covers-means : SpanningTree g tr → (s k : ℕ) → s < g .edges → k < length ranks → (coversRank g (rooted g ranks) s k ≡ true) ↔ Covers g tr s (getD ranks k 0)
+  pub covers-means :
+      SpanningTree g tr →
+      (s k : ℕ) →
+      s < g .edges →
+      k < length ranks →
+      (coversRank g (rooted g ranks) s k ≡ true) ↔ Covers g tr s (getD ranks k 0)
   covers-means tree s k b l =
-      let sides = covers-side g tr (getD ranks k 0) (λ v. rooted g ranks .path v k) (rank-cut tree k l) s (tree .joins (g .end₁ s) (g .end₂ s) (sound .first s b) (sound .second s b)) in
+      let sides = covers-side g tr (getD ranks k 0) (λ v. rooted g ranks .path v k) (rank-cut tree k l) s
+      (tree .joins (g .end₁ s) (g .end₂ s) (sound .first s b) (sound .second s b)) in
       (λ h. sides .1 (xor-means _ _ .0 h), λ v. xor-means _ _ .1 (sides .0 v))
 
   -- The judge says yes exactly to minimum spanning trees.
@@ -349,5 +377,13 @@ module _ {g : Graph} (sound : Sound g) {tr : EdgeSet} {ranks : List ℕ} (lists 
       passes : Test g tr (λ e. pos (c e)) → judge g tr c ranks ≡ true
       passes h = all-of _ _ (λ s b. or-means _ _ .1 (λ spare. all-of _ _ (λ k m. or-means _ _ .1 (λ over. le-leb _ _ (less s b spare k m over)))))
         where
-          less : (s : ℕ) → s < g .edges → spareOf g tr s ≡ true → (k : ℕ) → k < length ranks → coversRank g (rooted g ranks) s k ≡ true → c (getD ranks k 0) ≤ c s
-          less s b spare k m over = le-pos (h s (getD ranks k 0) b (and-first _ _ spare) (not-true (tr s) (and-second (g .live s) _ spare)) (covers-means tree s k b m .0 over))
+          less :
+              (s : ℕ) →
+              s < g .edges →
+              spareOf g tr s ≡ true →
+              (k : ℕ) →
+              k < length ranks →
+              coversRank g (rooted g ranks) s k ≡ true →
+              c (getD ranks k 0) ≤ c s
+          less s b spare k m over =
+              le-pos (h s (getD ranks k 0) b (and-first _ _ spare) (not-true (tr s) (and-second (g .live s) _ spare)) (covers-means tree s k b m .0 over))

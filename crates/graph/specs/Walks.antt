@@ -53,7 +53,11 @@ module _ {g : Graph} {S U : EdgeSet} (ends : (e : ℕ) → e < g .edges → S e 
   joined-through j = walk-through (j .1)
 
 -- A walk all of whose edges are in U is a walk over U.
-pub walk-within : {g : Graph} {S : EdgeSet} (U : EdgeSet) {u v : ℕ} {es : List ℕ} → Walk g S u v es → ((e : ℕ) → List·Memᴰ e es → S e ≡ true → U e ≡ true) → Walk g U u v es
+pub walk-within :
+    {g : Graph} {S : EdgeSet} (U : EdgeSet) {u v : ℕ} {es : List ℕ} →
+    Walk g S u v es →
+    ((e : ℕ) → List·Memᴰ e es → S e ≡ true → U e ≡ true) →
+    Walk g U u v es
 walk-within U stop h = stop
 walk-within U (step {e} k s l x) h = step k (h e (List·Memᴰ·head refl) s) l (walk-within U x (λ i m. h i (List·Memᴰ·tail m)))
 
@@ -76,12 +80,26 @@ abbrev pub Simple : Graph → EdgeSet → ℕ → ℕ → Type 0
 Simple g S u v = (es : List ℕ) × Walk g S u v es × NoneTwice es
 
 -- From u over e, when e comes again later: take the rest of the walk behind that, with e before it if need be.
-skip : {g : Graph} {S : EdgeSet} {e u v x w : ℕ} {es : List ℕ} → e < g .edges → S e ≡ true → Leads g e u v → Walk g S x w es → NoneTwice es → List·Memᴰ e es → Simple g S u w
+skip :
+    {g : Graph} {S : EdgeSet} {e u v x w : ℕ} {es : List ℕ} →
+    e < g .edges →
+    S e ≡ true →
+    Leads g e u v →
+    Walk g S x w es →
+    NoneTwice es →
+    List·Memᴰ e es →
+    Simple g S u w
 skip k s l stop n m = absurd (List·Memᴰ·not-nil m)
-skip {g} {S} {e} {u} {v} {w = w} k s l (step {e = f} {v = y} {es = fs} k′ s′ l′ rest) n m = elim (List·Memᴰ·cases-cons m) [ inl p ↦ found p | inr o ↦ skip k s l rest (n .1) o ]
+skip {g} {S} {e} {u} {v} {w = w} k s l (step {e = f} {v = y} {es = fs} k′ s′ l′ rest) n m =
+    elim (List·Memᴰ·cases-cons m) [ inl p ↦ found p | inr o ↦ skip k s l rest (n .1) o ]
   where
     found : e ≡ f → Simple g S u w
-    found p = elim (leads-two l (rw (← p) at l′)) [ inl q ↦ (e ∷ fs, step k s l (rw q at rest), (λ o. n .0 (Memᴰ·cast (sym p) o), n .1)) | inr q ↦ (fs, rw q at rest, n .1) ]
+    found p =
+        elim (leads-two l (rw (← p) at l′)) [
+          | inl q ↦ (e ∷ fs, step k s l (rw q at rest), (λ o. n .0 (Memᴰ·cast (sym p) o), n .1))
+          | inr q ↦
+              (fs, rw q at rest, n .1)
+        ]
 
 pub simple-walk : {g : Graph} {S : EdgeSet} {u v : ℕ} {es : List ℕ} → Walk g S u v es → Simple g S u v
 simple-walk stop = ([], stop, tt)

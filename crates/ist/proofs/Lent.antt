@@ -35,7 +35,7 @@ use denote.Triple.Call.{calls-at}
 use denote.Triple.Clauses.{ensured, lasts}
 use denote.Triple.Spec.{tripleOf}
 use Rattle.records.specs.declared.Link.{Link}
-use Rattle.records.specs.Records.{firsts, allSmall}
+use Rattle.records.specs.Records.{firstLinks, allSmall}
 use Rattle.records.proofs.Link as T
 use Rattle.records.proofs.Link.Laws as T′
 use Rattle.records.proofs.LinkRows.{R}
@@ -70,21 +70,30 @@ module _ {M : Type 1} (𝓤 : URA M) (H : Heap 𝓤) (A : Atoms 𝓤) (mem : Mem
     abbrev pub to-load : Load .Ghost
     to-load = (((κ, tt), (q, tt), tt, (s, tt), (slice-vals s, tt)), tt)
 
-    small-said : (r : bool .Denot) → ent 𝓤 (ensured 𝓤 H A all-small.ended (all-small.clauses 𝓤 H A mem run) (κ, tt) (s, tt) tt r) (fact 𝓤 (r ≡ allSmall (now s)))
+    small-said :
+        (r : bool .Denot) →
+        ent 𝓤 (ensured 𝓤 H A all-small.ended (all-small.clauses 𝓤 H A mem run) (κ, tt) (s, tt) tt r) (fact 𝓤 (r ≡ allSmall (now s)))
     small-said r = exE 𝓤 _ (λ ws. snd∗ 𝓤 (sem 𝓤 H A (lasts all-small.ended (κ, tt) (s, tt) ws)) (fact 𝓤 (r ≡ allSmall (now s))))
 
-    load-said : (r : Links .Denot) → ent 𝓤 (ensured 𝓤 H A load.ended (load.clauses 𝓤 H A mem run) (κ, tt) (s, tt) tt r) (fact 𝓤 (r ≡ firsts 256 (now s)))
-    load-said r = exE 𝓤 _ (λ ws. snd∗ 𝓤 (sem 𝓤 H A (lasts load.ended (κ, tt) (s, tt) ws)) (fact 𝓤 (r ≡ firsts 256 (now s))))
+    load-said : (r : Links .Denot) → ent 𝓤 (ensured 𝓤 H A load.ended (load.clauses 𝓤 H A mem run) (κ, tt) (s, tt) tt r) (fact 𝓤 (r ≡ firstLinks 256 (now s)))
+    load-said r = exE 𝓤 _ (λ ws. snd∗ 𝓤 (sem 𝓤 H A (lasts load.ended (κ, tt) (s, tt) ws)) (fact 𝓤 (r ≡ firstLinks 256 (now s))))
 
     -- what either call asks: the list is Copy, so what it owns is kept
-    asks : Given 𝓤 H A → ent 𝓤 (sep 𝓤 (A .lft κ q) (sem 𝓤 H A (Own κ s))) (sep 𝓤 (sep 𝓤 (sep 𝓤 (sep 𝓤 (A .lft κ q) (emp 𝓤)) (sem 𝓤 H A (fsep (Own κ s) ftrue))) (emp 𝓤)) (sem 𝓤 H A (Own κ s)))
+    asks :
+        Given 𝓤 H A →
+        ent 𝓤 (sep 𝓤 (A .lft κ q) (sem 𝓤 H A (Own κ s))) (sep 𝓤 (sep 𝓤 (sep 𝓤 (sep 𝓤 (A .lft κ q) (emp 𝓤)) (sem 𝓤 H A (fsep (Own κ s) ftrue))) (emp 𝓤)) (sem 𝓤 H A (Own κ s)))
     asks W =
-        qed W (‵ (flft κ q) ∷ ‵ (Own κ s) ∷ []) ∵ move ! (1 ∷ []) $ use1 W (‵ (Own κ s) ⊛ ‵ (Own κ s)) (shr-slice-copy 𝓤 H A W (named 0) κ R .twice s (slice-vals s)) $ split ! $
+        qed W (‵ (flft κ q) ∷ ‵ (Own κ s) ∷ []) ∵ move ! (1 ∷ []) $ use1 W (‵ (Own κ s) ⊛ ‵ (Own κ s))
+        (shr-slice-copy 𝓤 H A W (named 0) κ R .twice s (slice-vals s)) $ split ! $
         nothing ! $ move ! (1 ∷ 0 ∷ []) $ fjoin ! $ nothing ! $ move ! (3 ∷ 0 ∷ []) $ join ! $ join ! $ nothing ! $ move ! (1 ∷ 0 ∷ []) $ join ! $ done !
 
-module _ {M : Type 1} {𝓤 : URA M} {H : Heap 𝓤} {A : Atoms 𝓤} {K : Type 0} {W : Given 𝓤 H A} {Γ : List (Item 𝓤)} {E : Env 𝓤 H} {C : Calls 𝓤 H} {Λ : Loops 𝓤 H} {p : Post 𝓤 H} {d : Place} {rest : Body} where
+module _ {M : Type 1} {𝓤 : URA M} {H : Heap 𝓤} {A : Atoms 𝓤} {K : Type 0} {W : Given 𝓤 H A} {Γ : List (Item 𝓤)} {E : Env 𝓤 H} {C : Calls 𝓤 H} {Λ : Loops 𝓤 H}
+    {p : Post 𝓤 H} {d : Place} {rest : Body} where
   -- the token, what the result owns and what is said of it, apart: the relation of the machine value to the value said
-  told : K → (X : RattleType) (x : X .Denot) (κ : Lft) (q : Share) (s : RefT (List Link)) (u : Val) (Said : X .Denot → SProp 𝓤) → ((r : X .Denot) → ent 𝓤 (Said r) (fact 𝓤 (r ≡ x)))
+  told :
+      K →
+      (X : RattleType) (x : X .Denot) (κ : Lft) (q : Share) (s : RefT (List Link)) (u : Val) (Said : X .Denot → SProp 𝓤) →
+      ((r : X .Denot) → ent 𝓤 (Said r) (fact 𝓤 (r ≡ x)))
       → (Is X x (u ∷ []) → Seq K W (‵ (flft κ q) ∷ ‵ (Own κ s) ∷ Γ) (lands C Λ E d u rest p))
       → Seq K W (later (some (λ (r : X .Denot). ((‵ (flft κ q) ⊛ ‵ ftrue) ⊛ ‵ (X .own r (u ∷ []))) ⊛ raw (Said r))) ∷ ‵ (Own κ s) ∷ Γ) (lands C Λ E d u rest p)
   told t X x κ q s u Said says k =
@@ -92,20 +101,32 @@ module _ {M : Type 1} {𝓤 : URA M} {H : Heap 𝓤} {A : Atoms 𝓤} {K : Type 
       peeks t X (Is X) (shows 𝓤 H A X) r (u ∷ []) (λ is. drop t $ split t $ move t (1 ∷ []) $ drop t $ k (subst (λ (y : X .Denot). Is X y (u ∷ [])) e is))))
 
   module _ {f : Name} {xs : List Operand} where
-    pub calls-small : K → (mem : Memory → SProp 𝓤) (run : Routine → Fun 𝓤) {κ : Lft} {q : Share} (s : RefT (List Link)) → FmC 𝓤 H (W .laws) C → Triple 𝓤 (C f) (Small 𝓤 H A mem run) → Opds K W (raw (Small 𝓤 H A mem run .pre (to-small 𝓤 H A mem run κ q s)) ∷ ‵ (Own κ s) ∷ Γ) E xs (slice-vals s)
+    pub calls-small :
+        K →
+        (mem : Memory → SProp 𝓤) (run : Routine → Fun 𝓤) {κ : Lft} {q : Share} (s : RefT (List Link)) →
+        FmC 𝓤 H (W .laws) C →
+        Triple 𝓤 (C f) (Small 𝓤 H A mem run) →
+        Opds K W (raw (Small 𝓤 H A mem run .pre (to-small 𝓤 H A mem run κ q s)) ∷ ‵ (Own κ s) ∷ Γ) E xs (slice-vals s)
         → ((u : Val) → Is bool (allSmall (now s)) (u ∷ []) → Seq K W (‵ (flft κ q) ∷ ‵ (Own κ s) ∷ Γ) (lands C Λ E d u rest p))
         → Seq K W (‵ (flft κ q) ∷ ‵ (Own κ s) ∷ Γ) (runs C Λ E (seq (call f xs d) rest) p)
     calls-small t mem run {κ} {q} s fm known os k =
         use2 W (raw (Small 𝓤 H A mem run .pre (to-small 𝓤 H A mem run κ q s)) ⊛ ‵ (Own κ s)) (asks 𝓤 H A mem run κ q s W) $ split t $
         calls-at t fm (Small 𝓤 H A mem run) known (to-small 𝓤 H A mem run κ q s) os (λ u.
-        use1 W (later (some (λ (r : bool .Denot). ((‵ (flft κ q) ⊛ ‵ ftrue) ⊛ ‵ (bool .own r (u ∷ []))) ⊛ raw (ensured 𝓤 H A all-small.ended (all-small.clauses 𝓤 H A mem run) (κ, tt) (s, tt) tt r)))) (id⊢ 𝓤 _) $
+        use1 W (later (some (λ (r : bool .Denot). ((‵ (flft κ q) ⊛ ‵ ftrue) ⊛ ‵ (bool .own r (u ∷ []))) ⊛ raw
+        (ensured 𝓤 H A all-small.ended (all-small.clauses 𝓤 H A mem run) (κ, tt) (s, tt) tt r)))) (id⊢ 𝓤 _) $
         told t bool (allSmall (now s)) κ q s u _ (small-said 𝓤 H A mem run κ q s) (k u))
 
-    pub calls-load : K → (mem : Memory → SProp 𝓤) (run : Routine → Fun 𝓤) {κ : Lft} {q : Share} (s : RefT (List Link)) → FmC 𝓤 H (W .laws) C → Triple 𝓤 (C f) (Load 𝓤 H A mem run) → Opds K W (raw (Load 𝓤 H A mem run .pre (to-load 𝓤 H A mem run κ q s)) ∷ ‵ (Own κ s) ∷ Γ) E xs (slice-vals s)
-        → ((u : Val) → Is Links (firsts 256 (now s)) (u ∷ []) → Seq K W (‵ (flft κ q) ∷ ‵ (Own κ s) ∷ Γ) (lands C Λ E d u rest p))
+    pub calls-load :
+        K →
+        (mem : Memory → SProp 𝓤) (run : Routine → Fun 𝓤) {κ : Lft} {q : Share} (s : RefT (List Link)) →
+        FmC 𝓤 H (W .laws) C →
+        Triple 𝓤 (C f) (Load 𝓤 H A mem run) →
+        Opds K W (raw (Load 𝓤 H A mem run .pre (to-load 𝓤 H A mem run κ q s)) ∷ ‵ (Own κ s) ∷ Γ) E xs (slice-vals s)
+        → ((u : Val) → Is Links (firstLinks 256 (now s)) (u ∷ []) → Seq K W (‵ (flft κ q) ∷ ‵ (Own κ s) ∷ Γ) (lands C Λ E d u rest p))
         → Seq K W (‵ (flft κ q) ∷ ‵ (Own κ s) ∷ Γ) (runs C Λ E (seq (call f xs d) rest) p)
     calls-load t mem run {κ} {q} s fm known os k =
         use2 W (raw (Load 𝓤 H A mem run .pre (to-load 𝓤 H A mem run κ q s)) ⊛ ‵ (Own κ s)) (asks 𝓤 H A mem run κ q s W) $ split t $
         calls-at t fm (Load 𝓤 H A mem run) known (to-load 𝓤 H A mem run κ q s) os (λ u.
-        use1 W (later (some (λ (r : Links .Denot). ((‵ (flft κ q) ⊛ ‵ ftrue) ⊛ ‵ (Links .own r (u ∷ []))) ⊛ raw (ensured 𝓤 H A load.ended (load.clauses 𝓤 H A mem run) (κ, tt) (s, tt) tt r)))) (id⊢ 𝓤 _) $
-        told t Links (firsts 256 (now s)) κ q s u _ (load-said 𝓤 H A mem run κ q s) (k u))
+        use1 W (later (some (λ (r : Links .Denot). ((‵ (flft κ q) ⊛ ‵ ftrue) ⊛ ‵ (Links .own r (u ∷ []))) ⊛ raw
+        (ensured 𝓤 H A load.ended (load.clauses 𝓤 H A mem run) (κ, tt) (s, tt) tt r)))) (id⊢ 𝓤 _) $
+        told t Links (firstLinks 256 (now s)) κ q s u _ (load-said 𝓤 H A mem run κ q s) (k u))

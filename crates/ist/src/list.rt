@@ -1,20 +1,10 @@
 // The functions for C over a lent list of link records. The borrow checker does not cover such a list: each function over it
-// is proved by hand, and only hands the list's length, a test and a copy to the function above it.
-ghost use mathlib.Core.Path.{_≡_};
+// is proved by hand, and only hands the list's length, a test and a copy to its function of crate `ist_lists`.
 ghost use Rattle.judging.specs.Verdicts.{TreeJudged, AnswerJudged};
 ghost use Rattle.accept.specs.ListJobs.{listJob};
 ghost use Rattle.lists.specs.ListServices.{ListWritten, ListAnswered, ListJudged, ListCostLocated};
-ghost use Rattle.ist.specs.Exports.{Of, Said, Replied};
-use crate::code;
-use crate::number;
-use ids::Edge;
+ghost use Rattle.codes.specs.Exports.{Said, Replied};
 use records::Link;
-
-fn judge_copy(stations: u32, count: usize, small: bool, links: [Link; 256]) -> i32
-    ensures { λ r. ⌜ Of count small links (λ ys. Said (ListJudged (listJob stations ys) TreeJudged) r) ⌝ }
-{
-    code(lists::judge_links(stations, count, small, links))
-}
 
 // Is the marked tree of a list cheapest?
 #[no_mangle]
@@ -24,19 +14,7 @@ pub extern "C" fn ist_judge_list(stations: u32, list: &[Link]) -> i32
     let count = list.len();
     let small = records::all_small(list);
     let links = records::load(list);
-    judge_copy(stations, count, small, links)
-}
-
-fn judge_answer_copy(
-    stations: u32,
-    count: usize,
-    small: bool,
-    links: [Link; 256],
-    answer: &[u8],
-) -> i32
-    ensures { λ r. ⌜ Of count small links (λ ys. Said (ListJudged (listJob stations ys) (λ s. AnswerJudged s (now (answer .entry)))) r) ⌝ }
-{
-    code(lists::judge_answer_links(stations, count, small, links, answer))
+    ist_lists::judge_copy(stations, count, small, links)
 }
 
 // Is a frame an answer to a list?
@@ -47,22 +25,7 @@ pub extern "C" fn ist_judge_answer_list(stations: u32, list: &[Link], answer: &[
     let count = list.len();
     let small = records::all_small(list);
     let links = records::load(list);
-    judge_answer_copy(stations, count, small, links, answer)
-}
-
-fn answer_copy(
-    stations: u32,
-    count: usize,
-    small: bool,
-    links: [Link; 256],
-    area: &mut [u8],
-    written: &mut usize,
-) -> i32
-    ensures { λ r. ⌜ Of count small links (λ ys. Replied (λ reply. ListAnswered (listJob stations ys) (now (area .entry)) reply (now (area .exit))) r (now (written .exit))) ⌝ }
-{
-    let reply = lists::answer_links(stations, count, small, links, area);
-    *written = reply.length;
-    number(reply.refusal)
+    ist_lists::judge_answer_copy(stations, count, small, links, answer)
 }
 
 // Answers a list into the area.
@@ -73,27 +36,13 @@ pub extern "C" fn ist_answer_list(
     area: &mut [u8],
     written: &mut usize,
 ) -> i32
-    ensures { λ r. ⌜ Replied (λ reply. ListAnswered (listJob stations (now (list .entry))) (now (area .entry)) reply (now (area .exit))) r (now (written .exit)) ⌝ }
+    ensures { λ r. ⌜ Replied (λ reply. ListAnswered (listJob stations (now (list .entry))) (now (area .entry)) reply (now (area .exit))) r
+        (now (written .exit)) ⌝ }
 {
     let count = list.len();
     let small = records::all_small(list);
     let links = records::load(list);
-    answer_copy(stations, count, small, links, area, written)
-}
-
-fn write_copy(
-    stations: u32,
-    count: usize,
-    small: bool,
-    links: [Link; 256],
-    area: &mut [u8],
-    written: &mut usize,
-) -> i32
-    ensures { λ r. ⌜ Of count small links (λ ys. Replied (λ reply. ListWritten (listJob stations ys) (now (area .entry)) reply (now (area .exit))) r (now (written .exit))) ⌝ }
-{
-    let frame = lists::write_links(stations, count, small, links, area);
-    *written = frame.length;
-    number(frame.refusal)
+    ist_lists::answer_copy(stations, count, small, links, area, written)
 }
 
 // Writes the job frame of a list into the area.
@@ -104,29 +53,13 @@ pub extern "C" fn ist_write_job(
     area: &mut [u8],
     written: &mut usize,
 ) -> i32
-    ensures { λ r. ⌜ Replied (λ reply. ListWritten (listJob stations (now (list .entry))) (now (area .entry)) reply (now (area .exit))) r (now (written .exit)) ⌝ }
+    ensures { λ r. ⌜ Replied (λ reply. ListWritten (listJob stations (now (list .entry))) (now (area .entry)) reply (now (area .exit))) r
+        (now (written .exit)) ⌝ }
 {
     let count = list.len();
     let small = records::all_small(list);
     let links = records::load(list);
-    write_copy(stations, count, small, links, area, written)
-}
-
-fn locate_copy(
-    stations: u32,
-    count: usize,
-    small: bool,
-    links: [Link; 256],
-    answer: &[u8],
-    link: u32,
-    offset: &mut usize,
-    length: &mut usize,
-)
-    ensures { λ _. ⌜ Of count small links (λ ys. ListCostLocated (listJob stations ys) (now (answer .entry)) link (record { offset = now (offset .exit); size = now (length .exit) })) ⌝ }
-{
-    let cost = lists::locate_cost_links(stations, count, small, links, answer, Edge(link));
-    *offset = cost.offset;
-    *length = cost.length;
+    ist_lists::write_copy(stations, count, small, links, area, written)
 }
 
 // Where a link's new cost stands in a frame that is offered as an answer to a list.
@@ -139,10 +72,11 @@ pub extern "C" fn ist_find_cost_list(
     offset: &mut usize,
     length: &mut usize,
 )
-    ensures { λ _. ⌜ ListCostLocated (listJob stations (now (list .entry))) (now (answer .entry)) link (record { offset = now (offset .exit); size = now (length .exit) }) ⌝ }
+    ensures { λ _. ⌜ ListCostLocated (listJob stations (now (list .entry))) (now (answer .entry)) link
+        (record { offset = now (offset .exit); size = now (length .exit) }) ⌝ }
 {
     let count = list.len();
     let small = records::all_small(list);
     let links = records::load(list);
-    locate_copy(stations, count, small, links, answer, link, offset, length);
+    ist_lists::locate_copy(stations, count, small, links, answer, link, offset, length);
 }

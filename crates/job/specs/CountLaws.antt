@@ -1,40 +1,28 @@
 -- Questions 1 to 3 by the tests of the code. Assumes nothing.
-use Prim.Native.Nat.{ℕ, zero, suc, _+_, _*_, _<_, _≤_}
+use Prim.Native.Nat.{ℕ, _+_, _*_, _<_, _≤_}
 use native.Mathlib.Omega.{arith}
-use mathlib.Core.Path.{_≡_, refl, sym, ap, _∙_}
-use mathlib.Core.Bool.{true, false}
+use mathlib.Core.Path.{_≡_, sym, ap, _∙_}
 use mathlib.Core.List.{List, [], _∷_, flatMap}
-use mathlib.Core.Option.{Option, some, none}
+use mathlib.Core.Option.{some}
 use lib.ListN.{length, take, drop, length-append}
-use borrow.Author.Tests.{lt-ltb, le-ltb, le-leb, lt-leb, eq-eqb, ne-eqb}
-use Rattle.leb128.specs.Number.{Bytes, encode}
-use Rattle.frame.specs.Job.{numberBytes, bytesOf}
-use Rattle.frame.specs.Questions.{numbers, nodeCount, edgeCount, question2, question3}
-use Rattle.frame.specs.Meaning.{Divides, Counted, Complete}
+use Rattle.number.specs.Number.{Bytes}
+use Rattle.frame.specs.Job.{bytesOf}
+use Rattle.frame.specs.Questions.{numbers}
+use Rattle.frame.specs.Meaning.{nodeCount, edgeCount, Divides, Counted}
 use Rattle.frame.specs.Division.{division}
 use Rattle.frame.specs.Form.{question2-means, question3-means, refuted}
-use Rattle.job.specs.declared.read.Taken.{Taken}
-use Rattle.job.specs.declared.read.Counts.{Counts}
-use Rattle.job.specs.declared.read.Numbers.{Numbers}
-use Rattle.job.specs.declared.read.Numbers.the-variants.{Count, Refused}
-use Rattle.job.specs.Reading.{takenAt, countFrom, refusedCounts, countsOf}
-use Rattle.job.specs.LoadLaws.{Next, next-number}
-
-pub count-some : (o : Option (List ℕ)) (count : ℕ) → countFrom 0 o ≡ Count count → (ns : List ℕ) × (o ≡ some ns) × (length ns ≡ count)
-unfolding countFrom
-count-some (some ns) count e =
-    let same : 0 + length ns ≡ count = cc in
-    (ns, refl, omega arith)
-count-some none count e = let z : _≡_ {A = ℕ} 0 1 = cc in absurd (omega arith)
-
-pub count-none : (o : Option (List ℕ)) → countFrom 0 o ≡ Refused → o ≡ none
-unfolding countFrom
-count-none (some ns) e = let z : _≡_ {A = ℕ} 0 1 = cc in absurd (omega arith)
-count-none none e = refl
+use Rattle.codec.specs.declared.Taken.{Taken}
+use Rattle.job.specs.declared.Counts.{Counts}
+use Rattle.division.specs.declared.Numbers.the-variants.{Count, Refused}
+use Rattle.codec.specs.Numbers.{takenAt}
+use Rattle.division.specs.Counting.{countFrom}
+use Rattle.job.specs.Reading.{refusedCounts, countsOf}
+use Rattle.codec.specs.NumberLaws.{next-number}
+use Rattle.division.specs.CountingLaws.{counted-some, counted-none}
 
 pub counts-undivided : (s : List ℕ) → countFrom 0 (numbers s) ≡ Refused → countsOf (numbers s) ≡ refusedCounts 1
 unfolding countsOf
-counts-undivided s e = rw (count-none (numbers s) e)
+counts-undivided s e = rw (counted-none (numbers s) e)
 
 -- The two counts stand first: a and b, read one behind the other, are they.
 record Head (s ns : List ℕ) (a b : Taken) : Type 0 where
@@ -62,21 +50,26 @@ head-of s (n ∷ m ∷ ns) a b d l p q =
       rest = rw next (second .rest);
     }
 
-same-counts : {n n′ m m′ p p′ : ℕ} → n ≡ n′ → m ≡ m′ → p ≡ p′ → _≡_ {A = Counts} (record { refusal = 0; nodes = n; edges = m; behind = p }) (record { refusal = 0; nodes = n′; edges = m′; behind = p′ })
+same-counts :
+    {n n′ m m′ p p′ : ℕ} →
+    n ≡ n′ →
+    m ≡ m′ →
+    p ≡ p′ →
+    _≡_ {A = Counts} (record { refusal = 0; nodes = n; edges = m; behind = p }) (record { refusal = 0; nodes = n′; edges = m′; behind = p′ })
 same-counts e₁ e₂ e₃ i = record { refusal = 0; nodes = e₁ i; edges = e₂ i; behind = e₃ i }
 
 -- What is known once the frame has divided into `count` numbers.
 module _ (s : List ℕ) (count : ℕ) (e : countFrom 0 (numbers s) ≡ Count count) where
   ns : List ℕ
-  ns = count-some (numbers s) count e .0
+  ns = counted-some (numbers s) count e .0
 
   divided : numbers s ≡ some ns
   unfolding ns
-  divided = count-some (numbers s) count e .1
+  divided = counted-some (numbers s) count e .1
 
   size : length ns ≡ count
   unfolding ns
-  size = count-some (numbers s) count e .2
+  size = counted-some (numbers s) count e .2
 
   -- Question 2 or 3 has the answer "no".
   no-counts : (Counted ns → ⊥) → countsOf (numbers s) ≡ refusedCounts 2

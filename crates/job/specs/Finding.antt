@@ -1,51 +1,23 @@
 -- What the link finder computes, and that it finds a link's numbers. Assumes nothing.
 use Prim.Native.Nat.{ℕ, zero, suc, _+_, _-_, _*_, _<_, _≤_}
 use native.Mathlib.Omega.{arith}
-use mathlib.Core.Path.{_≡_, refl, sym, ap, ap₂, subst, _∙_}
-use mathlib.Core.Bool.{true, false}
-use mathlib.Core.List.{List, [], _∷_, flatMap}
-use mathlib.Core.Option.{Option, some, none}
-use lib.ListN.{length, getD, take, drop, length-append, length-drop}
+use mathlib.Core.Path.{_≡_, refl, sym, ap, ap₂, _∙_}
+use mathlib.Core.List.{List, flatMap}
+use mathlib.Core.Option.{some}
+use lib.ListN.{length, take, drop, length-append, length-drop}
 use borrow.Author.Tests.{eq-eqb, ne-eqb, lt-ltb, le-ltb}
-use Rattle.loops.specs.Loop.{scan}
-use Rattle.loops.specs.ScanLaws.{scan-turn}
-use Rattle.leb128.specs.Number.{Bytes, encode}
-use Rattle.frame.specs.Job.{numberBytes, bytesOf}
-use Rattle.frame.specs.Questions.{numbers, edgeCount, jobOf, formRefusal}
-use Rattle.frame.specs.Services.{Place, nowhere, linkOffset, linkLength, linkPlace}
-use Rattle.frame.specs.Meaning.{Divides}
+use Rattle.number.specs.Number.{Bytes}
+use Rattle.frame.specs.Job.{bytesOf}
+use Rattle.frame.specs.Questions.{numbers, jobOf, formRefusal}
+use Rattle.frame.specs.Meaning.{edgeCount, Divides}
+use Rattle.frame.specs.Services.{nowhere, linkOffset, linkLength}
+use Rattle.frame.specs.Replies.{linkPlace}
 use Rattle.frame.specs.Division.{division}
 use Rattle.frame.specs.RoundTrip.{formed, job-of, length-links}
-use Rattle.job.specs.declared.find.Part.{Part}
-use Rattle.job.specs.declared.read.Header.{Header}
-use Rattle.job.specs.Reading.{takenAt, header, headerOf}
-use Rattle.job.specs.LoadLaws.{Next, next-number}
-use Rattle.job.specs.FormLaws.{parts-join, drop-divides}
-
--- The code's place of a part, in the words of the definitions.
-abbrev pub placeOf : Part → Place
-placeOf p = record { offset = p .offset; size = p .length }
-
--- The position behind so many numbers from a position on.
-abbrev pub step : List ℕ → ℕ → ℕ → ℕ
-step s i at = takenAt s at .next
-
-abbrev pub skipped : List ℕ → ℕ → ℕ → ℕ
-skipped s n at = scan (step s) n 0 at
-
-skip-from : (s : List ℕ) (n i at : ℕ) (ns : List ℕ) → at ≤ length s → Divides (drop at s) ns → n ≤ length ns → scan (step s) n i at ≡ at + length (bytesOf (take n ns))
-unfolding scan flatMap
-skip-from s zero i at ns w d l = omega arith
-skip-from s (suc n) i at [] w d l = absurd (omega arith)
-skip-from s (suc n) i at (v ∷ ns) w d l =
-    let k = next-number s ns v at w d in
-    let here : takenAt s at .next ≡ k .next = ap (λ t. t .next) (k .here) in
-    rw here (skip-from s n (suc i) (k .next) ns (k .within) (k .rest) (omega arith) ∙ simp length-append (omega (arith, k .size)))
-
--- Where the numbers of a frame end.
-pub skip-numbers : (s ns : List ℕ) (i n : ℕ) → Divides s ns → i + n ≤ length ns → skipped s n (length (bytesOf (take i ns))) ≡ length (bytesOf (take i ns)) + length (bytesOf (take n (drop i ns)))
-skip-numbers s ns i n d l =
-    skip-from s n 0 (length (bytesOf (take i ns))) (drop i ns) (omega (arith, length-append (bytesOf (take i ns)) (bytesOf (drop i ns)), ap length (parts-join s ns i d))) (drop-divides s ns i d) (omega (arith, length-drop i ns))
+use Rattle.job.specs.declared.Header.{Header}
+use Rattle.codec.specs.Numbers.{skipped}
+use Rattle.job.specs.Reading.{header, headerOf}
+use Rattle.codec.specs.NumberLaws.{parts-join, drop-divides, skip-numbers}
 
 -- The finder, by the tests of the code.
 pub find-refused : (h : Header) (s : List ℕ) (e : ℕ) → (h .refusal ≡ 0 → ⊥) → linkPlace (h .refusal) s e ≡ nowhere
@@ -85,7 +57,9 @@ module _ (s : List ℕ) (h : Header) (z : h .refusal ≡ 0) (f : Found s h) wher
         p ∙ skip-numbers s (f .ns) 0 (4 * e + 2) (f .divides) (omega (arith, f .size)) ∙ whole
 
     at-end : end ≡ first + linkLength (f .ns) e
-    at-end = q ∙ ap (skipped s 4) at-first ∙ skip-numbers s (f .ns) (4 * e + 2) 4 (f .divides) (omega (arith, f .size)) ∙ ap (λ (o : ℕ). o + linkLength (f .ns) e) (sym at-first)
+    at-end =
+        q ∙ ap (skipped s 4) at-first ∙ skip-numbers s (f .ns) (4 * e + 2) 4 (f .divides) (omega (arith, f .size)) ∙
+        ap (λ (o : ℕ). o + linkLength (f .ns) e) (sym at-first)
 
     pub ends-order : first ≤ end
     ends-order = omega (arith, at-end)
@@ -93,7 +67,16 @@ module _ (s : List ℕ) (h : Header) (z : h .refusal ≡ 0) (f : Found s h) wher
     ends-within : end ≤ length s
     ends-within =
         let i : ℕ = 4 * e + 2 in
-        omega (arith, at-first, at-end, length-append (bytesOf (take i (f .ns))) (bytesOf (drop i (f .ns))), ap length (parts-join s (f .ns) i (f .divides)), length-append (bytesOf (take 4 (drop i (f .ns)))) (bytesOf (drop 4 (drop i (f .ns)))), ap length (parts-join (drop (length (bytesOf (take i (f .ns)))) s) (drop i (f .ns)) 4 (drop-divides s (f .ns) i (f .divides))), length-drop (length (bytesOf (take i (f .ns)))) s)
+        omega (
+          arith,
+          at-first,
+          at-end,
+          length-append (bytesOf (take i (f .ns))) (bytesOf (drop i (f .ns))),
+          ap length (parts-join s (f .ns) i (f .divides)),
+          length-append (bytesOf (take 4 (drop i (f .ns)))) (bytesOf (drop 4 (drop i (f .ns)))),
+          ap length (parts-join (drop (length (bytesOf (take i (f .ns)))) s) (drop i (f .ns)) 4 (drop-divides s (f .ns) i (f .divides))),
+          length-drop (length (bytesOf (take i (f .ns)))) s,
+        )
 
     pub part-within : first + (end - first) ≤ length s
     part-within = omega (arith, ends-order, ends-within)

@@ -1,29 +1,33 @@
 -- Questions 1 to 5 by the steps of the code: the counts, the links in their arrays, the two tests over arrays.
 -- Assumes nothing.
-use Prim.Native.Nat.{ℕ, zero, suc, _+_, _*_, _<_, _≤_}
+use Prim.Native.Nat.{ℕ, zero, suc, _*_, _≤_}
 use native.Mathlib.Omega.{arith}
 use mathlib.Core.Path.{_≡_, refl, sym, ap, ap₂, _∙_}
 use mathlib.Core.Logic.{_⊎_, inl, inr}
 use mathlib.Core.Bool.{true, false}
-use mathlib.Core.List.{List, _++_, map}
+use mathlib.Core.List.{List}
 use mathlib.Core.Option.{Option, some, none}
 use lib.Dec.{leb}
-use lib.ListN.{length, getD, take, drop, take-append-drop, length-append, length-drop, length-map, List·getD-append, List·getD-map}
-use lib.Seq.{sets, sets-eq, drop-append-seam, getD-drop}
+use lib.ListN.{length, getD, take, drop, length-append, length-drop}
+use lib.Seq.{sets}
 use Rattle.loops.specs.TestLaws.{truth, all-same}
-use Rattle.leb128.specs.Number.{Bytes, encode}
-use Rattle.frame.specs.Job.{Edge, Job, noEdge, link, numberBytes, bytesOf}
-use Rattle.frame.specs.Questions.{numbers, linksOf, nodeCount, edgeCount, jobFrom, jobOf, ask, question2, question3, question4, question5, formRefusal}
-use Rattle.frame.specs.Meaning.{Divides}
+use Rattle.number.specs.Number.{Bytes}
+use Rattle.frame.specs.Job.{JobLink, Job, link, bytesOf}
+use Rattle.frame.specs.Questions.{numbers, jobOf, ask, question2, question3, question4, question5, formRefusal}
+use Rattle.frame.specs.Meaning.{linksOf, nodeCount, edgeCount, jobFrom, Divides}
 use Rattle.frame.specs.Division.{division}
 use Rattle.frame.specs.Form.{question2-means, question3-means}
-use Rattle.frame.specs.RoundTrip.{flatMap-append, length-links}
-use Rattle.job.specs.declared.read.Counts.{Counts}
-use Rattle.job.specs.Reading.{Divided, Loaded, loadLinks, filled, firsts, seconds, marks, endsApart, endsHold, marksHold, countsOf, refusedCounts, header, headerOf}
+use Rattle.frame.specs.RoundTrip.{length-links}
+use Rattle.job.specs.declared.Counts.{Counts}
+use Rattle.codec.specs.Numbers.{Divided}
+use Rattle.job.specs.Reading.{LinksLoaded, loadLinks, filled, countsOf, refusedCounts, header, headerOf}
+use Rattle.links.specs.Columns.{firsts, seconds, marks, endsApart, endsHold, marksHold}
 use Rattle.job.specs.LoadLaws.{load-all}
+use Rattle.codec.specs.NumberLaws.{parts-join, drop-divides}
+use Rattle.links.specs.ColumnLaws.{column}
 
 -- Questions 1 to 3 passed: what is known of the counts k.
-pub record Passed (s : List ℕ) (k : Counts) : Type 0 where
+pub record CountsPassed (s : List ℕ) (k : Counts) : Type 0 where
   pub ns : List ℕ
   pub nodes : jobOf s .nodes ≡ k .nodes
   pub links : jobOf s .links ≡ linksOf (drop 2 ns)
@@ -52,21 +56,7 @@ case-of s (some ns) e = second (truth (question2 ns))
     second (inl q₂) = third q₂ (truth (question3 ns))
     second (inr q₂) = refused 1 (rw (e, q₂)) (rw (e, q₂))
 
--- A frame's bytes are those of its first i numbers, and then those of the others.
-pub parts-join : (s ns : List ℕ) (i : ℕ) → Divides s ns → bytesOf (take i ns) ++ bytesOf (drop i ns) ≡ s
-parts-join s ns i d =
-    sym (flatMap-append (encode numberBytes) (take i ns) (drop i ns)) ∙ ap bytesOf (take-append-drop i ns) ∙ d .joined
-
-pub drop-divides : (s ns : List ℕ) (i : ℕ) → Divides s ns → Divides (drop (length (bytesOf (take i ns))) s) (drop i ns)
-drop-divides s ns i d =
-    record {
-      small = λ j. rw getD-drop (d .small (i + j));
-      joined =
-          sym (drop-append-seam (bytesOf (take i ns)) (bytesOf (drop i ns))) ∙
-          ap (drop (length (bytesOf (take i ns)))) (parts-join s ns i d);
-    }
-
-passed-of : (s : List ℕ) → Bytes s → (k : Counts) → k ≡ countsOf (numbers s) → k .refusal ≡ 0 → Case s → Passed s k
+passed-of : (s : List ℕ) → Bytes s → (k : Counts) → k ≡ countsOf (numbers s) → k .refusal ≡ 0 → Case s → CountsPassed s k
 unfolding countsOf
 passed-of s h k e z (refused r c f) = absurd (omega (arith, z, ap (λ (k : Counts). k .refusal) (e ∙ c)))
 passed-of s h k e z (passed ns d q₂ q₃) =
@@ -100,10 +90,15 @@ passed-of s h k e z (passed ns d q₂ q₃) =
     four : length (drop 2 ns) ≡ 4 * edgeCount ns
     four = omega (arith, length-drop 2 ns, question3-means ns .0 q₃)
 
-pub counts-passed : (s : List ℕ) → Bytes s → (k : Counts) → k ≡ countsOf (numbers s) → k .refusal ≡ 0 → Passed s k
+pub counts-passed : (s : List ℕ) → Bytes s → (k : Counts) → k ≡ countsOf (numbers s) → k .refusal ≡ 0 → CountsPassed s k
 counts-passed s h k e z = passed-of s h k e z (case-of s (numbers s) refl)
 
-refused-of : (s : List ℕ) (k : Counts) → k ≡ countsOf (numbers s) → (k .refusal ≡ 0 → ⊥) → Case s → record { refusal = k .refusal; nodes = 0; edges = 0 } ≡ headerOf s
+refused-of :
+    (s : List ℕ) (k : Counts) →
+    k ≡ countsOf (numbers s) →
+    (k .refusal ≡ 0 → ⊥) →
+    Case s →
+    record { refusal = k .refusal; nodes = 0; edges = 0 } ≡ headerOf s
 unfolding header countsOf
 refused-of s k e z (refused r c f) =
     ap (λ (k : Counts). record { refusal = k .refusal; nodes = 0; edges = 0 }) (e ∙ c) ∙ ap (λ (r : ℕ). header r (jobOf s)) (sym f)
@@ -111,29 +106,28 @@ refused-of s k e z (passed ns d q₂ q₃) =
     let none : countsOf (numbers s) .refusal ≡ 0 = rw (d, q₂, q₃) in
     absurd (z (ap (λ (k : Counts). k .refusal) e ∙ none))
 
-pub counts-refused : (s : List ℕ) (k : Counts) → k ≡ countsOf (numbers s) → (k .refusal ≡ 0 → ⊥) → record { refusal = k .refusal; nodes = 0; edges = 0 } ≡ headerOf s
+pub counts-refused :
+    (s : List ℕ) (k : Counts) →
+    k ≡ countsOf (numbers s) →
+    (k .refusal ≡ 0 → ⊥) →
+    record { refusal = k .refusal; nodes = 0; edges = 0 } ≡ headerOf s
 counts-refused s k e z = refused-of s k e z (case-of s (numbers s) refl)
 
--- What the first places of an array hold after a list was put there.
-pub sets-at : (xs l : List ℕ) (k : ℕ) → length xs ≤ length l → k < length xs → getD (sets l 0 xs) k 0 ≡ getD xs k 0
-sets-at xs l k h m = rw (sets-eq xs l 0 (omega arith)) (List·getD-append xs (drop (0 + length xs) l) 0 k m)
-
-pub column : (f : Edge → ℕ) → f noEdge ≡ 0 → (ls : List Edge) (l : List ℕ) (e : ℕ) → length ls ≤ length l → e < length ls → getD (sets l 0 (map f ls)) e 0 ≡ f (getD ls e noEdge)
-column f z ls l e h k =
-    sets-at (map f ls) l e (omega (arith, length-map ls f)) (omega (arith, length-map ls f)) ∙
-    ap (λ (d : ℕ). getD (map f ls) e d) (sym z) ∙
-    List·getD-map f ls e noEdge
-
-module _ (s : List ℕ) (k : Counts) (p : Passed s k) where
+module _ (s : List ℕ) (k : Counts) (p : CountsPassed s k) where
   -- Behind the two counts four numbers are left for each link.
   pub links-left : (part : List ℕ) → part ≡ drop (k .behind) s → Divided part 0 (4 * k .edges)
   links-left part e = record { ns = drop 2 (p .ns); enough = omega (arith, p .four); within = omega arith; rest = rw e (p .rest) }
 
   -- The links are read into their arrays.
-  pub links-read : (part : List ℕ) → part ≡ drop (k .behind) s → (l : Loaded) → l .at ≡ 0 → loadLinks part (k .edges) l ≡ filled (jobOf s .links) 0 (length part) l
+  pub links-read :
+      (part : List ℕ) →
+      part ≡ drop (k .behind) s →
+      (l : LinksLoaded) →
+      l .at ≡ 0 →
+      loadLinks part (k .edges) l ≡ filled (jobOf s .links) 0 (length part) l
   links-read part e l z =
       load-all part (k .edges) 0 (drop 2 (p .ns)) l (p .four) (omega arith) (rw (z, e) (p .rest)) ∙
-      ap (λ (ls : List Edge). filled ls 0 (length part) l) (sym (p .links))
+      ap (λ (ls : List JobLink). filled ls 0 (length part) l) (sym (p .links))
 
   -- Questions 4 and 5 over arrays are those of the job.
   pub ends-read :
@@ -144,8 +138,10 @@ module _ (s : List ℕ) (k : Counts) (p : Passed s k) where
   unfolding question4
   ends-read as₁ as₂ h₁ h₂ =
       rw (← p .nodes, ← p .edges)
-      (all-same (length ls) (λ e. endsApart n (getD (sets as₁ 0 (firsts ls)) e 0) (getD (sets as₂ 0 (seconds ls)) e 0)) (λ e. endsApart n (link j e .end₁) (link j e .end₂))
-      λ e l. ap₂ (endsApart n) (column (λ (l : Edge). l .end₁) refl ls as₁ e (omega (arith, p .edges, p .limit)) l) (column (λ (l : Edge). l .end₂) refl ls as₂ e (omega (arith, p .edges, p .limit)) l))
+      (all-same (length ls) (λ e. endsApart n (getD (sets as₁ 0 (firsts ls)) e 0) (getD (sets as₂ 0 (seconds ls)) e 0))
+      (λ e. endsApart n (link j e .end₁) (link j e .end₂))
+      λ e l. ap₂ (endsApart n) (column (λ (l : JobLink). l .end₁) refl ls as₁ e (omega (arith, p .edges, p .limit)) l)
+      (column (λ (l : JobLink). l .end₂) refl ls as₂ e (omega (arith, p .edges, p .limit)) l))
     where
       j : Job
       j = jobOf s
@@ -153,7 +149,7 @@ module _ (s : List ℕ) (k : Counts) (p : Passed s k) where
       n : ℕ
       n = j .nodes
 
-      ls : List Edge
+      ls : List JobLink
       ls = j .links
 
   pub marks-read : (as₄ : List ℕ) → length as₄ ≡ 256 → marksHold (k .edges) (sets as₄ 0 (marks (jobOf s .links))) ≡ question5 (jobOf s)
@@ -161,9 +157,9 @@ module _ (s : List ℕ) (k : Counts) (p : Passed s k) where
   marks-read as₄ h =
       rw (← p .edges)
       (all-same (length ls) (λ e. leb (getD (sets as₄ 0 (marks ls)) e 0) 1) (λ e. leb (link (jobOf s) e .mark) 1)
-      λ e l. ap (λ (m : ℕ). leb m 1) (column (λ (l : Edge). l .mark) refl ls as₄ e (omega (arith, p .edges, p .limit)) l))
+      λ e l. ap (λ (m : ℕ). leb m 1) (column (λ (l : JobLink). l .mark) refl ls as₄ e (omega (arith, p .edges, p .limit)) l))
     where
-      ls : List Edge
+      ls : List JobLink
       ls = jobOf s .links
 
   -- What the reader then says.

@@ -7,7 +7,7 @@ ghost use Rattle.accept.specs.Accepting.{Asked, AskedSome};
 ghost use Rattle.judging.specs.Verdicts.{TreeJudged, AnswerJudged};
 ghost use Rattle.judging.specs.declared.Verdict.the-variants.{Refused};
 use accept::accept;
-use job::read::Header;
+use job::Header;
 
 // What a judge says: yes, no, or the first refusal of questions 1 to 6.
 pub enum Verdict {
@@ -27,7 +27,8 @@ pub fn judge_held(
     mask: &[u64; 64],
 ) -> Verdict
     requires { ⌜ AskedSome header (now end1) (now end2) (now cost) (now mark) (now ts) (now mask) ⌝ }
-    ensures judged { λ r. ⌜ ((s : List ℕ) → Asked s header (now (end1 .entry)) (now (end2 .entry)) (now (cost .entry)) (now (mark .entry)) (now (ts .entry)) (now (mask .entry)) → TreeJudged s r) ⌝ }
+    ensures judged { λ r. ⌜ ((s : List ℕ) → Asked s header (now (end1 .entry)) (now (end2 .entry)) (now (cost .entry)) (now (mark .entry)) (now (ts .entry))
+        (now (mask .entry)) → TreeJudged s r) ⌝ }
     ensures refused { λ r. ⌜ (header .refusal ≢ 0 → r ≡ Refused (header .refusal)) ⌝ }
 {
     let refusal = header.refusal;
@@ -36,7 +37,9 @@ pub fn judge_held(
     }
     let edges = header.edges as usize;
     let count = header.nodes as usize - 1;
-    if tree::judge(edges, ts, count, end1, end2, cost, mark, mask) {
+    // Tree ranks are by falling cost: none costs more than a lower one.
+    let falling = 18446744073709551615u64;
+    if cheapest::judge_ranked(edges, ts, count, falling, end1, end2, cost, mark, mask) {
         return Verdict::Yes;
     }
     Verdict::No
@@ -76,7 +79,8 @@ pub fn judge_answer_held(
     offered: &[u8],
 ) -> Verdict
     requires { ⌜ AskedSome header (now end1) (now end2) (now cost) (now mark) (now ts) (now mask) ⌝ }
-    ensures judged { λ r. ⌜ ((s : List ℕ) → Asked s header (now (end1 .entry)) (now (end2 .entry)) (now (cost .entry)) (now (mark .entry)) (now (ts .entry)) (now (mask .entry)) → AnswerJudged s (now (offered .entry)) r) ⌝ }
+    ensures judged { λ r. ⌜ ((s : List ℕ) → Asked s header (now (end1 .entry)) (now (end2 .entry)) (now (cost .entry)) (now (mark .entry)) (now (ts .entry))
+        (now (mask .entry)) → AnswerJudged s (now (offered .entry)) r) ⌝ }
     ensures refused { λ r. ⌜ (header .refusal ≢ 0 → r ≡ Refused (header .refusal)) ⌝ }
 {
     let first = header.refusal;
@@ -85,7 +89,7 @@ pub fn judge_answer_held(
     }
     let edges = header.edges as usize;
     let count = header.nodes as usize - 1;
-    if !certify::judge_answer(offered, edges, ts, count, end1, end2, cost, mark, mask) {
+    if !certify::certify(offered, edges, ts, count, end1, end2, cost, mark, mask) {
         return Verdict::No;
     }
     Verdict::Yes

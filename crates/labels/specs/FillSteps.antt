@@ -19,7 +19,7 @@ use Rattle.sets.specs.Sets.{member}
 use Rattle.sets.specs.SetsLaws.{member-past, member-word}
 use Rattle.graph.specs.Graph.{count}
 use Rattle.graph.specs.CountLaws.{count-put}
-use Rattle.labels.specs.Store.{Filled, SparesFilled}
+use Rattle.labels.specs.Store.{LabelsPut, SparesFilled}
 
 -- What the loop over a word keeps: `left` holds the members without a label.
 pub record Filling (word base x : ℕ) (label₀ : List ℕ) (left : ℕ) (label : List ℕ) : Type 0 where
@@ -32,17 +32,19 @@ pub filling-start : (word base x : ℕ) (label : List ℕ) → word < 2 ^ 64 →
 filling-start word base x label l = record { inside = λ k. refl; before = λ j m. refl; size = refl; small = l }
 
 module _ (word base x : ℕ) (label₀ : List ℕ) (left : ℕ) (label : List ℕ) (h : Filling word base x label₀ left label) where
-  pub filling-end : left ≡ 0 → Filled word base x label₀ label
+  pub filling-end : left ≡ 0 → LabelsPut word base x label₀ label
   filling-end e =
       record {
-        inside = λ k. subst (λ b. cond b x (getD label (base + k) 0) ≡ cond (bit word k) x (getD label₀ (base + k) 0)) (ap (λ w. bit w k) e ∙ bit-zero k) (h .inside k);
+        inside =
+            λ k. subst (λ b. cond b x (getD label (base + k) 0) ≡ cond (bit word k) x (getD label₀ (base + k) 0)) (ap (λ w. bit w k) e ∙ bit-zero k)
+            (h .inside k);
         before = h .before;
         size = h .size;
       }
 
   module _ (some : left ≡ 0 → ⊥) (i : ℕ) (lowest : i ≡ first 64 (bit left)) where
-    pub lowest-below : i < 64
-    lowest-below = rw lowest (first-below 64 left (omega arith) (h .small))
+    pub filling-below : i < 64
+    filling-below = rw lowest (first-below 64 left (omega arith) (h .small))
 
     is-member : bit left i ≡ true
     is-member = rw lowest (first-is 64 (bit left) .hit (first-below 64 left (omega arith) (h .small)))
@@ -55,14 +57,18 @@ module _ (word base x : ℕ) (label₀ : List ℕ) (left : ℕ) (label : List �
       gone = ap (λ (f : ℕ → Bool). f i) without ∙ put-same (bit left) i false
 
       pub filling-less : count 64 (bit left′) < count 64 (bit left)
-      filling-less = rw without (omega (arith, rw is-member at (count-put 64 (bit left) i false lowest-below)))
+      filling-less = rw without (omega (arith, rw is-member at (count-put 64 (bit left) i false filling-below)))
 
       pub filling-turn : base + 64 ≤ length label₀ → left′ < 2 ^ 64 → Filling word base x label₀ left′ (set label (base + i) x)
       filling-turn room l =
           record {
             inside = λ k. elim (ℕ-discrete k i) [
-              | yes e ↦ rw (e, gone, getD-set-same label (base + i) x 0 (omega (arith, h .size, lowest-below))) (rw is-member at (h .inside i))
-              | no d ↦ rw (ap (λ (f : ℕ → Bool). f k) without ∙ put-other (bit left) i false k d, getD-set-other label (base + i) (base + k) x 0 (λ q. d (omega arith))) (h .inside k)
+              | yes e ↦ rw (e, gone, getD-set-same label (base + i) x 0 (omega (arith, h .size, filling-below))) (rw is-member at (h .inside i))
+              | no d ↦ rw (
+                ap (λ (f : ℕ → Bool). f k) without ∙
+                    put-other (bit left) i false k d,
+                getD-set-other label (base + i) (base + k) x 0 (λ q. d (omega arith)),
+              ) (h .inside k)
             ];
             before = λ j m. getD-set-other label (base + i) j x 0 (omega arith) ∙ h .before j m;
             size = length-set label (base + i) x ∙ h .size;
@@ -95,7 +101,7 @@ module _ (x : ℕ) (old new label₀ : List ℕ) (k : ℕ) (label : List ℕ) (h
       }
 
   module _ (w : ℕ) (small : w < 2 ^ 64) (less : (j : ℕ) → bit w j ≡ (bit (getD old k 0) j && not (bit (getD new k 0) j)))
-      (label′ : List ℕ) (f : Filled w (64 * k) x label label′) where
+      (label′ : List ℕ) (f : LabelsPut w (64 * k) x label label′) where
     -- A place from word k on.
     at-word : (j : ℕ) → getD label′ (64 * k + j) 0 ≡ cond (newBelow old new (k + 1) (64 * k + j)) x (getD label₀ (64 * k + j) 0)
     at-word j =

@@ -12,16 +12,16 @@ use Rattle.bits.specs.Bit.{bit}
 use Rattle.sets.specs.Sets.{member}
 use Rattle.optimum.specs.Search.{Problem, Search, seeSpare, search}
 use Rattle.optimum.specs.Lowest.{fresh, labelled, matched, labelTree, mateSearch, labelSpare}
-use Rattle.search.specs.State.{matesOf, stateOf, Swept}
+use Rattle.search.specs.State.{arrayMates, stateOf, Swept}
 use Rattle.search.specs.SpareSteps.{state-spare}
 use Rattle.search.specs.ExploreSteps.{below-same}
-use Rattle.labels.specs.Store.{Store, labelsOf, Sized, Filled, SparesFilled, Relabelled, MateSwept, TreeLabelled, SpareLabelled}
+use Rattle.labels.specs.Store.{Store, storeLabels, Sized, LabelsPut, SparesFilled, Relabelled, MateSwept, TreeLabelled, SpareLabelled}
 
 -- Both kinds of label written.
 pub relabelled : (x old-trees : ℕ) (old-live : List ℕ) (trees : ℕ) (live tree-label spare-label tree-label′ spare-label′ : List ℕ)
     → length tree-label ≡ 64 → length spare-label ≡ 256
     → (w : ℕ) → ((j : ℕ) → bit w j ≡ (bit trees j && not (bit old-trees j)))
-    → Filled w 0 x tree-label tree-label′ → SparesFilled x old-live live spare-label spare-label′
+    → LabelsPut w 0 x tree-label tree-label′ → SparesFilled x old-live live spare-label spare-label′
     → Relabelled x old-trees old-live trees live tree-label spare-label tree-label′ spare-label′
 relabelled x old-trees old-live trees live tree-label spare-label tree-label′ spare-label′ l m w less f g =
     record {
@@ -32,12 +32,14 @@ relabelled x old-trees old-live trees live tree-label spare-label tree-label′ 
     }
 
 -- In the model.
-model-labelled : (x : ℕ) (b b′ : Store) → Relabelled x (b .trees) (b .live) (b′ .trees) (b′ .live) (b .tree-label) (b .spare-label) (b′ .tree-label) (b′ .spare-label)
-    → (st : Search) → stateOf (b′ .mates) (b′ .trees) (b′ .live) false ≡ st → labelsOf b′ ≡ labelled x st (labelsOf b)
+model-labelled :
+    (x : ℕ) (b b′ : Store) →
+    Relabelled x (b .trees) (b .live) (b′ .trees) (b′ .live) (b .tree-label) (b .spare-label) (b′ .tree-label) (b′ .spare-label)
+    → (st : Search) → stateOf (b′ .mates) (b′ .trees) (b′ .live) false ≡ st → storeLabels b′ ≡ labelled x st (storeLabels b)
 model-labelled x b b′ h st e =
     ap₂ (λ (f g : ℕ → ℕ). record { treeDone = bit (b′ .trees); spareDone = λ s. not (member (b′ .live) s); treeLabel = f; spareLabel = g })
     (fun-ext (h .at-tree)) (fun-ext (λ s. h .at-spare s ∙ ap (λ z. cond z x (getD (b .spare-label) s 0)) (lost (member (b .live) s) (member (b′ .live) s))))
-    ∙ ap (λ (z : Search). labelled x z (labelsOf b)) e
+    ∙ ap (λ (z : Search). labelled x z (storeLabels b)) e
   where
     lost : (old new : Bool) → (old && not new) ≡ (not new && not (not old))
     lost true true = refl
@@ -61,11 +63,19 @@ module _ (s : ℕ) (rows mates : List ℕ) (trees : ℕ) (live : List ℕ) where
     mate-is : getD mates s 0 ≡ suc (getD mates s 0 - 1)
     mate-is = omega arith
 
-    mate-idle : (p : Problem) (u : ℕ) → getD mates s 0 ≡ suc u → bit trees u ≡ true → mateSearch p s (getD mates s 0) (stateOf mates trees live false) ≡ stateOf mates trees live false
+    mate-idle :
+        (p : Problem) (u : ℕ) →
+        getD mates s 0 ≡ suc u →
+        bit trees u ≡ true →
+        mateSearch p s (getD mates s 0) (stateOf mates trees live false) ≡ stateOf mates trees live false
     unfolding mateSearch
     mate-idle p u e h = rw (e, h)
 
-    mate-goes : (p : Problem) (u : ℕ) → getD mates s 0 ≡ suc u → bit trees u ≡ false → mateSearch p s (getD mates s 0) (stateOf mates trees live false) ≡ search p (p .spares) u (stateOf mates trees live false)
+    mate-goes :
+        (p : Problem) (u : ℕ) →
+        getD mates s 0 ≡ suc u →
+        bit trees u ≡ false →
+        mateSearch p s (getD mates s 0) (stateOf mates trees live false) ≡ search p (p .spares) u (stateOf mates trees live false)
     unfolding mateSearch
     mate-goes p u e h = rw (e, h)
 
@@ -85,7 +95,7 @@ module _ (s : ℕ) (rows mates : List ℕ) (trees : ℕ) (live : List ℕ) where
 -- A tree rank as an origin.
 module _ (t x matchedSet : ℕ) (rows : List ℕ) (b : Store) where
   tree-stays : Sized b
-      → ((p : Problem) → bit matchedSet t ≡ matched p (matesOf (b .mates)) t → labelTree p (matesOf (b .mates)) t (labelsOf b) ≡ labelsOf b)
+      → ((p : Problem) → bit matchedSet t ≡ matched p (arrayMates (b .mates)) t → labelTree p (arrayMates (b .mates)) t (storeLabels b) ≡ storeLabels b)
       → TreeLabelled t x matchedSet rows b b
   tree-stays z h = record { sized = z; same = refl; equal = λ p q l e m. sym (h p m) }
 
@@ -95,10 +105,11 @@ module _ (t x matchedSet : ℕ) (rows : List ℕ) (b : Store) where
 
   pub tree-done : Sized b → bit (b .trees) t ≡ true → TreeLabelled t x matchedSet rows b b
   unfolding labelTree
-  tree-done z h = tree-stays z (λ p m. rw (h, or-true (matched p (matesOf (b .mates)) t)))
+  tree-done z h = tree-stays z (λ p m. rw (h, or-true (matched p (arrayMates (b .mates)) t)))
 
-  tree-model : (p : Problem) → matched p (matesOf (b .mates)) t ≡ false → bit (b .trees) t ≡ false
-      → labelTree p (matesOf (b .mates)) t (labelsOf b) ≡ labelled (p .treeCost t) (search p (p .spares) t (fresh (matesOf (b .mates)) (labelsOf b))) (labelsOf b)
+  tree-model : (p : Problem) → matched p (arrayMates (b .mates)) t ≡ false → bit (b .trees) t ≡ false
+      → labelTree p (arrayMates (b .mates)) t (storeLabels b) ≡ labelled (p .treeCost t)
+      (search p (p .spares) t (fresh (arrayMates (b .mates)) (storeLabels b))) (storeLabels b)
   unfolding labelTree
   tree-model p e k = rw (e, k)
 
@@ -117,8 +128,8 @@ module _ (t x matchedSet : ℕ) (rows : List ℕ) (b : Store) where
         };
         same = f .same;
         equal = λ p q l e m.
-            model-labelled x b b′ g (search p (p .spares) t (fresh (matesOf (b .mates)) (labelsOf b))) (f .equal p q l)
-            ∙ ap (λ (y : ℕ). labelled y (search p (p .spares) t (fresh (matesOf (b .mates)) (labelsOf b))) (labelsOf b)) (sym e)
+            model-labelled x b b′ g (search p (p .spares) t (fresh (arrayMates (b .mates)) (storeLabels b))) (f .equal p q l)
+            ∙ ap (λ (y : ℕ). labelled y (search p (p .spares) t (fresh (arrayMates (b .mates)) (storeLabels b))) (storeLabels b)) (sym e)
             ∙ sym (tree-model p (sym m ∙ h) k);
       }
 
@@ -129,13 +140,21 @@ module _ (s x : ℕ) (rows : List ℕ) (b : Store) where
   spare-done z h = record { sized = z; same = refl; equal = λ p q e. sym (rw h) }
 
   abbrev seenBy : Problem → Search
-  seenBy p = mateSearch p s (matesOf (b .mates) s) (seeSpare s (fresh (matesOf (b .mates)) (labelsOf b)))
+  seenBy p = mateSearch p s (arrayMates (b .mates) s) (seeSpare s (fresh (arrayMates (b .mates)) (storeLabels b)))
 
-  spare-model : (p : Problem) → member (b .live) s ≡ true → labelSpare p (matesOf (b .mates)) s (labelsOf b) ≡ labelled (p .spareCost s) (seenBy p) (labelsOf b)
+  spare-model :
+      (p : Problem) →
+      member (b .live) s ≡ true →
+      labelSpare p (arrayMates (b .mates)) s (storeLabels b) ≡ labelled (p .spareCost s) (seenBy p) (storeLabels b)
   unfolding labelSpare
   spare-model p h = rw h
 
-  pub spare-labelled : Sized b → member (b .live) s ≡ true → (marked : List ℕ) → ((j : ℕ) → member marked j ≡ (member (b .live) j && not (eqb s j))) → (b′ : Store)
+  pub spare-labelled :
+      Sized b →
+      member (b .live) s ≡ true →
+      (marked : List ℕ) →
+      ((j : ℕ) → member marked j ≡ (member (b .live) j && not (eqb s j))) →
+      (b′ : Store)
       → MateSwept s rows (b .mates) (b .trees) marked (b′ .mates) (b′ .trees) (b′ .live)
       → Relabelled x (b .trees) (b .live) (b′ .trees) (b′ .live) (b .tree-label) (b .spare-label) (b′ .tree-label) (b′ .spare-label)
       → SpareLabelled s x rows b b′
@@ -150,7 +169,8 @@ module _ (s x : ℕ) (rows : List ℕ) (b : Store) where
         };
         same = f .same;
         equal = λ p q e.
-            model-labelled x b b′ g (seenBy p) (f .equal p q ∙ ap (mateSearch p s (matesOf (b .mates) s)) (state-spare (b .mates) (b .trees) (b .live) marked s more))
-            ∙ ap (λ (y : ℕ). labelled y (seenBy p) (labelsOf b)) (sym e)
+            model-labelled x b b′ g (seenBy p) (f .equal p q ∙
+            ap (mateSearch p s (arrayMates (b .mates) s)) (state-spare (b .mates) (b .trees) (b .live) marked s more))
+            ∙ ap (λ (y : ℕ). labelled y (seenBy p) (storeLabels b)) (sym e)
             ∙ sym (spare-model p h);
       }

@@ -21,11 +21,12 @@ use Rattle.sets.specs.Sets.{member}
 use Rattle.sets.specs.SetsLaws.{member-past}
 use Rattle.optimum.specs.Search.{Problem, Mates}
 use Rattle.optimum.specs.Lowest.{Labels, unlabelled, labelTree, labelSpare, labelFrom, labels}
-use Rattle.search.specs.State.{matesOf, Below, Suits}
+use Rattle.search.specs.State.{arrayMates, Below, Suits}
 use Rattle.search.specs.ExploreSteps.{below-same}
-use Rattle.matching.specs.Progress.{costAt, Holds}
+use Rattle.graph.specs.Rank.{costAt}
+use Rattle.matching.specs.Progress.{Holds}
 use Rattle.labels.specs.SkipSteps.{skip-one}
-use Rattle.labels.specs.Store.{Store, store, labelsOf, Sized, TreeLabelled, SpareLabelled, Labellable, Labelled, treeNext, matchedBelow}
+use Rattle.labels.specs.Store.{Store, store, storeLabels, Sized, TreeLabelled, SpareLabelled, Labellable, Labelled, treeNext, matchedBelow}
 
 -- Is there a hit below one more?
 any-more : (n : ℕ) (P : ℕ → Bool) → ltb (first (suc n) P) (suc n) ≡ (ltb (first n P) n || P n)
@@ -52,7 +53,12 @@ module _ (mates : List ℕ) where
       more t ∙ rw (h t, add-one s) (sym (any-more s (λ s. eqb (getD mates s 0) (suc t))))
 
   -- Spare ranks that have no mate do not count.
-  pub matched-below : (spares left : ℕ) → left ≤ spares → ((s : ℕ) → left ≤ s → s < spares → getD mates s 0 ≡ 0) → (t : ℕ) → matchedBelow left mates t ≡ matchedBelow spares mates t
+  pub matched-below :
+      (spares left : ℕ) →
+      left ≤ spares →
+      ((s : ℕ) → left ≤ s → s < spares → getD mates s 0 ≡ 0) →
+      (t : ℕ) →
+      matchedBelow left mates t ≡ matchedBelow spares mates t
   matched-below spares left few none t = same-test _ _ forth back
     where
       forth : matchedBelow left mates t ≡ true → matchedBelow spares mates t ≡ true
@@ -108,7 +114,12 @@ from-end : (p : Problem) (m : Mates) (t : ℕ) (l : Labels) (left : ℕ) → lab
 unfolding labelFrom
 from-end p m t l left = refl
 
-next-same : (trees spares : ℕ) (cost ts ss rows : List ℕ) (p : Problem) → p .trees ≡ trees → Holds p spares cost ts ss rows → (m : Mates) (turns t : ℕ) (l : Labels) (left : ℕ) → left ≤ spares
+next-same :
+    (trees spares : ℕ) (cost ts ss rows : List ℕ) (p : Problem) →
+    p .trees ≡ trees →
+    Holds p spares cost ts ss rows →
+    (m : Mates) (turns t : ℕ) (l : Labels) (left : ℕ) →
+    left ≤ spares
     → next p m turns t l left ≡ treeNext trees cost ts ss t left
 next-same trees spares cost ts ss rows p e h m turns t l zero k = refl
 next-same trees spares cost ts ss rows p e h m turns t l (suc s) k =
@@ -123,15 +134,15 @@ pub left-out : (live : List ℕ) (left left′ : ℕ) → left′ ≡ min left (
 left-out live left left′ e few = (omega arith, λ s a l. behind-past 256 (member live) s (omega arith) (omega arith))
 
 -- What the loop keeps: as many turns are left as tree ranks and spare ranks.
-pub record Labelling (trees spares : ℕ) (cost ts ss rows mates₀ : List ℕ) (b : Store) (t left : ℕ) : Type 0 where
+pub record LabelTurn (trees spares : ℕ) (cost ts ss rows mates₀ : List ℕ) (b : Store) (t left : ℕ) : Type 0 where
   pub trees-within : t ≤ trees
   pub spares-within : left ≤ spares
   pub sized : Sized b
   pub below : Below trees (b .mates)
-  pub same : matesOf (b .mates) ≡ matesOf mates₀
+  pub same : arrayMates (b .mates) ≡ arrayMates mates₀
   pub equal :
       (p : Problem) → p .trees ≡ trees → Holds p spares cost ts ss rows
-      → labelFrom p (matesOf mates₀) ((trees - t) + left) t left (labelsOf b) ≡ labels p (matesOf mates₀)
+      → labelFrom p (arrayMates mates₀) ((trees - t) + left) t left (storeLabels b) ≡ labels p (arrayMates mates₀)
 
 -- The loop that gives every spare rank its own cost.
 pub record Owned (spares : ℕ) (cost ss label₀ : List ℕ) (s : ℕ) (label : List ℕ) : Type 0 where
@@ -174,7 +185,7 @@ module _
     (owned : (s : ℕ) → getD own s 0 ≡ cond (ltb s spares) (costAt cost ss s) (getD spare-label s 0))
   where
     -- What is not live at first is unmatched.
-    free : (s : ℕ) → not (member taken s) ≡ eqb (matesOf mates s) 0
+    free : (s : ℕ) → not (member taken s) ≡ eqb (arrayMates mates s) 0
     free s = elim (decLt s 256) [
       | yes l ↦ rw (h .taken-are s l) (Bool·not-not (eqb (getD mates s 0) 0))
       | no l ↦ rw (member-past taken s (omega (arith, h .taken-length)) (omega arith), List·getD-eq-default mates 0 {n = s} (omega (arith, h .mates-length)))
@@ -186,21 +197,27 @@ module _
       | no l ↦ rw (le-ltb s spares (omega arith))
     ])
 
-    none-yet : (p : Problem) → Holds p spares cost ts ss rows → labelsOf (store mates 0 taken tree-label own) ≡ unlabelled p (matesOf mates)
+    none-yet : (p : Problem) → Holds p spares cost ts ss rows → storeLabels (store mates 0 taken tree-label own) ≡ unlabelled p (arrayMates mates)
     none-yet p q =
         ap₂ (λ (f g : ℕ → Bool). record { treeDone = f; spareDone = g; treeLabel = λ t. getD tree-label t 0; spareLabel = λ s. getD own s 0 })
         (fun-ext bit-zero) (fun-ext free)
-        ∙ ap₂ (λ (f g : ℕ → ℕ). record { treeDone = λ _. false; spareDone = λ s. eqb (matesOf mates s) 0; treeLabel = f; spareLabel = g })
+        ∙ ap₂ (λ (f g : ℕ → ℕ). record { treeDone = λ _. false; spareDone = λ s. eqb (arrayMates mates s) 0; treeLabel = f; spareLabel = g })
         (fun-ext (h .no-tree)) (fun-ext (owns p q))
 
     -- Of spare ranks that are not among the first few none is matched.
-    pub matched-few : (left : ℕ) → left ≡ min spares (behind 256 (member taken)) → (w : ℕ) → ((t : ℕ) → bit w t ≡ matchedBelow left mates t) → (t : ℕ) → bit w t ≡ matchedBelow spares mates t
+    pub matched-few :
+        (left : ℕ) →
+        left ≡ min spares (behind 256 (member taken)) →
+        (w : ℕ) →
+        ((t : ℕ) → bit w t ≡ matchedBelow left mates t) →
+        (t : ℕ) →
+        bit w t ≡ matchedBelow spares mates t
     matched-few left e w is t =
         is t
         ∙ matched-below mates spares left (omega arith)
         (λ s a l. eqb-true (getD mates s 0) 0 (sym (free s) ∙ ap not (left-out taken spares left e (h .few-spares) .1 s a l))) t
 
-    pub labelling-start : Labelling trees spares cost ts ss rows mates (store mates 0 taken tree-label own) 0 spares
+    pub labelling-start : LabelTurn trees spares cost ts ss rows mates (store mates 0 taken tree-label own) 0 spares
     labelling-start =
         record {
           trees-within = omega arith;
@@ -216,11 +233,11 @@ module _
           same = refl;
           equal = λ p e q.
               let all : (trees - 0) + spares ≡ trees + spares = omega arith in
-              ap (labelFrom p (matesOf mates) ((trees - 0) + spares) 0 spares) (none-yet p q)
+              ap (labelFrom p (arrayMates mates) ((trees - 0) + spares) 0 spares) (none-yet p q)
               ∙ rw (all, e, q .spares-are);
         }
 
-module _ (trees spares : ℕ) (cost ts ss rows mates₀ : List ℕ) (b : Store) (t left : ℕ) (h : Labelling trees spares cost ts ss rows mates₀ b t left) where
+module _ (trees spares : ℕ) (cost ts ss rows mates₀ : List ℕ) (b : Store) (t left : ℕ) (h : LabelTurn trees spares cost ts ss rows mates₀ b t left) where
   suits : (p : Problem) → p .trees ≡ trees → Holds p spares cost ts ss rows → Suits p rows (b .mates)
   suits p e q = record { rows-are = q .rows-are; below = rw e (h .below) }
 
@@ -228,7 +245,7 @@ module _ (trees spares : ℕ) (cost ts ss rows mates₀ : List ℕ) (b : Store) 
   pub labelling-skip :
       ((s s′ : ℕ) → s ≤ s′ → s′ < spares → costAt cost ss s ≤ costAt cost ss s′)
       → (left′ : ℕ) → left′ ≤ left → ((s : ℕ) → left′ ≤ s → s < left → member (b .live) s ≡ false)
-      → Labelling trees spares cost ts ss rows mates₀ b t left′
+      → LabelTurn trees spares cost ts ss rows mates₀ b t left′
   labelling-skip rising left′ k quiet =
       record {
         trees-within = h .trees-within;
@@ -240,16 +257,24 @@ module _ (trees spares : ℕ) (cost ts ss rows mates₀ : List ℕ) (b : Store) 
       }
     where
       skipped : (p : Problem) → p .trees ≡ trees → Holds p spares cost ts ss rows → (d : ℕ) → left′ + d ≤ left
-          → labelFrom p (matesOf mates₀) ((trees - t) + left′) t left′ (labelsOf b) ≡ labelFrom p (matesOf mates₀) ((trees - t) + (left′ + d)) t (left′ + d) (labelsOf b)
+          → labelFrom p (arrayMates mates₀) ((trees - t) + left′) t left′ (storeLabels b) ≡ labelFrom p (arrayMates mates₀) ((trees - t) + (left′ + d)) t
+          (left′ + d) (storeLabels b)
       skipped p e q zero m = let z : left′ + 0 ≡ left′ = omega arith in rw z
       skipped p e q (suc d) m =
           let one : left′ + suc d ≡ suc (left′ + d) = omega arith in
           let more : (trees - t) + suc (left′ + d) ≡ suc ((trees - t) + (left′ + d)) = omega arith in
           skipped p e q d (omega arith)
-          ∙ rw (one, more) (sym (skip-one p (matesOf mates₀) (mate-below p e q) (rise p q) ((trees - t) + (left′ + d)) t (left′ + d) (labelsOf b)
+          ∙ rw (one, more) (sym (skip-one p (arrayMates mates₀) (mate-below p e q) (rise p q) ((trees - t) + (left′ + d)) t (left′ + d) (storeLabels b)
           (ap not (quiet (left′ + d) (omega arith) (omega arith))) (rw e refl) (omega (arith, q .spares-are, h .spares-within))))
         where
-          mate-below : (p : Problem) → p .trees ≡ trees → Holds p spares cost ts ss rows → (s u : ℕ) → s < p .spares → matesOf mates₀ s ≡ suc u → u < p .trees
+          mate-below :
+              (p : Problem) →
+              p .trees ≡ trees →
+              Holds p spares cost ts ss rows →
+              (s u : ℕ) →
+              s < p .spares →
+              arrayMates mates₀ s ≡ suc u →
+              u < p .trees
           mate-below p e q s u l is = omega (arith, e, h .below s, ap (λ (f : Mates). f s) (h .same))
 
           rise : (p : Problem) → Holds p spares cost ts ss rows → (s s′ : ℕ) → s ≤ s′ → s′ < p .spares → p .spareCost s ≤ p .spareCost s′
@@ -273,7 +298,7 @@ module _ (trees spares : ℕ) (cost ts ss rows mates₀ : List ℕ) (b : Store) 
     pub labelling-tree : treeNext trees cost ts ss t left ≡ true → (x : ℕ) → x ≡ costAt cost ts t
         → (matchedSet : ℕ) → ((u : ℕ) → bit matchedSet u ≡ matchedBelow spares mates₀ u)
         → (b′ : Store) → TreeLabelled t x matchedSet rows b b′
-        → Labelling trees spares cost ts ss rows mates₀ b′ (t + 1) left
+        → LabelTurn trees spares cost ts ss rows mates₀ b′ (t + 1) left
     labelling-tree n x xe matchedSet mt b′ f =
         let l : t < trees = tree-there n in
         let turns : ℕ = (trees - (t + 1)) + left in
@@ -285,21 +310,22 @@ module _ (trees spares : ℕ) (cost ts ss rows mates₀ : List ℕ) (b : Store) 
           below = below-same (b .mates) (b′ .mates) (f .same) trees (h .below);
           same = f .same ∙ h .same;
           equal = λ p e q.
-              let m : Mates = matesOf mates₀ in
-              let step : labelsOf b′ ≡ labelTree p m t (labelsOf b) =
+              let m : Mates = arrayMates mates₀ in
+              let step : storeLabels b′ ≡ labelTree p m t (storeLabels b) =
               f .equal p (suits p e q) (rw e l) (q .tree-cost t (rw e l) ∙ sym xe)
               (mt t ∙ ap₂ (λ (n : ℕ) (z : Mates). ltb (first n (λ s. eqb (z s) (suc t))) n) (sym (q .spares-are)) (sym (h .same)))
-              ∙ ap (λ (z : Mates). labelTree p z t (labelsOf b)) (h .same) in
+              ∙ ap (λ (z : Mates). labelTree p z t (storeLabels b)) (h .same) in
               ap (labelFrom p m turns (t + 1) left) step
-              ∙ ap (λ (i : ℕ). labelFrom p m turns i left (labelTree p m t (labelsOf b))) (add-one t)
-              ∙ sym (from-tree p m turns t (labelsOf b) left (next-same trees spares cost ts ss rows p e q m turns t (labelsOf b) left (h .spares-within) ∙ n))
-              ∙ ap (λ (k : ℕ). labelFrom p m k t left (labelsOf b)) (sym one-less)
+              ∙ ap (λ (i : ℕ). labelFrom p m turns i left (labelTree p m t (storeLabels b))) (add-one t)
+              ∙ sym (from-tree p m turns t (storeLabels b) left
+              (next-same trees spares cost ts ss rows p e q m turns t (storeLabels b) left (h .spares-within) ∙ n))
+              ∙ ap (λ (k : ℕ). labelFrom p m k t left (storeLabels b)) (sym one-less)
               ∙ h .equal p e q;
         }
 
     pub labelling-spare : treeNext trees cost ts ss t left ≡ false → (x : ℕ) → x ≡ costAt cost ss (left - 1)
         → (b′ : Store) → SpareLabelled (left - 1) x rows b b′
-        → Labelling trees spares cost ts ss rows mates₀ b′ t (left - 1)
+        → LabelTurn trees spares cost ts ss rows mates₀ b′ t (left - 1)
     labelling-spare n x xe b′ f =
         let l : 0 < left = spare-there n in
         let turns : ℕ = (trees - t) + (left - 1) in
@@ -311,13 +337,14 @@ module _ (trees spares : ℕ) (cost ts ss rows mates₀ : List ℕ) (b : Store) 
           below = below-same (b .mates) (b′ .mates) (f .same) trees (h .below);
           same = f .same ∙ h .same;
           equal = λ p e q.
-              let m : Mates = matesOf mates₀ in
-              let step : labelsOf b′ ≡ labelSpare p m (left - 1) (labelsOf b) =
+              let m : Mates = arrayMates mates₀ in
+              let step : storeLabels b′ ≡ labelSpare p m (left - 1) (storeLabels b) =
               f .equal p (suits p e q) (q .spare-cost (left - 1) (omega (arith, q .spares-are, h .spares-within)) ∙ sym xe)
-              ∙ ap (λ (z : Mates). labelSpare p z (left - 1) (labelsOf b)) (h .same) in
+              ∙ ap (λ (z : Mates). labelSpare p z (left - 1) (storeLabels b)) (h .same) in
               ap (labelFrom p m turns t (left - 1)) step
-              ∙ sym (from-spare p m turns t (labelsOf b) left (next-same trees spares cost ts ss rows p e q m turns t (labelsOf b) left (h .spares-within) ∙ n))
-              ∙ ap (λ (k : ℕ). labelFrom p m k t left (labelsOf b)) (sym one-less)
+              ∙ sym (from-spare p m turns t (storeLabels b) left
+              (next-same trees spares cost ts ss rows p e q m turns t (storeLabels b) left (h .spares-within) ∙ n))
+              ∙ ap (λ (k : ℕ). labelFrom p m k t left (storeLabels b)) (sym one-less)
               ∙ h .equal p e q;
         }
 
@@ -333,9 +360,9 @@ module _ (trees spares : ℕ) (cost ts ss rows mates₀ : List ℕ) (b : Store) 
         spare-labels = λ p e q s. ap (λ (l : Labels). l .spareLabel s) (whole p e q);
       }
     where
-      whole : (p : Problem) → p .trees ≡ trees → Holds p spares cost ts ss rows → labelsOf b ≡ labels p (matesOf mates₀)
+      whole : (p : Problem) → p .trees ≡ trees → Holds p spares cost ts ss rows → storeLabels b ≡ labels p (arrayMates mates₀)
       whole p e q =
           let none : (trees - t) + left ≡ 0 = omega arith in
-          sym (from-end p (matesOf mates₀) t (labelsOf b) left)
-          ∙ ap (λ (k : ℕ). labelFrom p (matesOf mates₀) k t left (labelsOf b)) (sym none)
+          sym (from-end p (arrayMates mates₀) t (storeLabels b) left)
+          ∙ ap (λ (k : ℕ). labelFrom p (arrayMates mates₀) k t left (storeLabels b)) (sym none)
           ∙ h .equal p e q

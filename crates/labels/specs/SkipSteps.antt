@@ -37,7 +37,12 @@ module _
     tree-turn turns t zero l h b = refl
     tree-turn turns t (suc s) l h b =
         let first : ltb t (p .trees) ≡ true = and-first _ _ h in
-        let dear : leb (p .spareCost s) (p .treeCost t) ≡ true = le-leb (p .spareCost s) (p .treeCost t) (omega (arith, rise s (suc s) (omega arith) b, leb-true (p .spareCost (suc s)) (p .treeCost t) (and-second (ltb t (p .trees)) (leb (p .spareCost (suc s)) (p .treeCost t)) h))) in
+        let dear : leb (p .spareCost s) (p .treeCost t) ≡ true = le-leb (p .spareCost s) (p .treeCost t)
+        (omega (
+          arith,
+          rise s (suc s) (omega arith) b,
+          leb-true (p .spareCost (suc s)) (p .treeCost t) (and-second (ltb t (p .trees)) (leb (p .spareCost (suc s)) (p .treeCost t)) h),
+        )) in
         rw (and-both _ _ first dear)
 
     pub skip-one : (turns t s : ℕ) (l : Labels) → l .spareDone s ≡ true → turns ≡ (p .trees - t) + s → s < p .spares

@@ -11,8 +11,9 @@ use Rattle.bits.specs.Bit.{bit}
 use Rattle.sets.specs.Sets.{member}
 use Rattle.optimum.specs.Search.{Problem}
 use Rattle.optimum.specs.Lowest.{Labels, matched, labelTree, mateSearch, labelSpare, labels}
-use Rattle.search.specs.State.{matesOf, stateOf, Below, Taken, Suits}
-use Rattle.matching.specs.Progress.{costAt, Edges, Holds}
+use Rattle.search.specs.State.{arrayMates, stateOf, Below, Taken, Suits}
+use Rattle.graph.specs.Rank.{costAt}
+use Rattle.matching.specs.Progress.{Edges, Holds}
 
 -- The arrays: the mates, the tree ranks that have a label, the spare ranks that have none, and the labels.
 pub record Store : Type 0 where
@@ -26,8 +27,8 @@ abbrev pub store : List ℕ → ℕ → List ℕ → List ℕ → List ℕ → S
 store mates trees live tree-label spare-label =
     record { mates = mates; trees = trees; live = live; tree-label = tree-label; spare-label = spare-label }
 
-abbrev pub labelsOf : Store → Labels
-labelsOf b =
+abbrev pub storeLabels : Store → Labels
+storeLabels b =
     record {
       treeDone = bit (b .trees);
       spareDone = λ s. not (member (b .live) s);
@@ -44,7 +45,7 @@ pub record Sized (b : Store) : Type 0 where
   pub below : Below 64 (b .mates)
 
 -- The members of a word, at places from `base` on, have the label x.
-pub record Filled (word base x : ℕ) (label label′ : List ℕ) : Type 0 where
+pub record LabelsPut (word base x : ℕ) (label label′ : List ℕ) : Type 0 where
   pub inside : (k : ℕ) → getD label′ (base + k) 0 ≡ cond (bit word k) x (getD label (base + k) 0)
   pub before : (j : ℕ) → j < base → getD label′ j 0 ≡ getD label j 0
   pub size : length label′ ≡ length label
@@ -65,7 +66,7 @@ pub record Relabelled (x old-trees : ℕ) (old-live : List ℕ) (trees : ℕ) (l
 pub record MateSwept (s : ℕ) (rows mates : List ℕ) (trees : ℕ) (live mates′ : List ℕ) (trees′ : ℕ) (live′ : List ℕ) : Type 0 where
   pub mates-length : length mates′ ≡ 256
   pub live-length : length live′ ≡ 4
-  pub same : matesOf mates′ ≡ matesOf mates
+  pub same : arrayMates mates′ ≡ arrayMates mates
   pub equal :
       (p : Problem) → Suits p rows mates
       → stateOf mates′ trees′ live′ false ≡ mateSearch p s (getD mates s 0) (stateOf mates trees live false)
@@ -73,19 +74,19 @@ pub record MateSwept (s : ℕ) (rows mates : List ℕ) (trees : ℕ) (live mates
 -- Tree rank t as an origin.
 pub record TreeLabelled (t x matchedSet : ℕ) (rows : List ℕ) (b b′ : Store) : Type 0 where
   pub sized : Sized b′
-  pub same : matesOf (b′ .mates) ≡ matesOf (b .mates)
+  pub same : arrayMates (b′ .mates) ≡ arrayMates (b .mates)
   pub equal :
       (p : Problem) → Suits p rows (b .mates) → t < p .trees → p .treeCost t ≡ x
-      → bit matchedSet t ≡ matched p (matesOf (b .mates)) t
-      → labelsOf b′ ≡ labelTree p (matesOf (b .mates)) t (labelsOf b)
+      → bit matchedSet t ≡ matched p (arrayMates (b .mates)) t
+      → storeLabels b′ ≡ labelTree p (arrayMates (b .mates)) t (storeLabels b)
 
 -- Spare rank s as an origin.
 pub record SpareLabelled (s x : ℕ) (rows : List ℕ) (b b′ : Store) : Type 0 where
   pub sized : Sized b′
-  pub same : matesOf (b′ .mates) ≡ matesOf (b .mates)
+  pub same : arrayMates (b′ .mates) ≡ arrayMates (b .mates)
   pub equal :
       (p : Problem) → Suits p rows (b .mates) → p .spareCost s ≡ x
-      → labelsOf b′ ≡ labelSpare p (matesOf (b .mates)) s (labelsOf b)
+      → storeLabels b′ ≡ labelSpare p (arrayMates (b .mates)) s (storeLabels b)
 
 -- Tree rank t is the next origin, and not the spare rank before s.
 abbrev pub treeNext : ℕ → List ℕ → List ℕ → List ℕ → ℕ → ℕ → Bool
@@ -117,10 +118,10 @@ pub record Labelled (trees spares : ℕ) (cost ts ss rows mates mates′ tree-la
   pub tree-length : length tree-label ≡ 64
   pub spare-length : length spare-label ≡ 256
   pub below : Below trees mates′
-  pub same : matesOf mates′ ≡ matesOf mates
+  pub same : arrayMates mates′ ≡ arrayMates mates
   pub tree-labels :
       (p : Problem) → p .trees ≡ trees → Holds p spares cost ts ss rows
-      → (t : ℕ) → getD tree-label t 0 ≡ labels p (matesOf mates) .treeLabel t
+      → (t : ℕ) → getD tree-label t 0 ≡ labels p (arrayMates mates) .treeLabel t
   pub spare-labels :
       (p : Problem) → p .trees ≡ trees → Holds p spares cost ts ss rows
-      → (s : ℕ) → getD spare-label s 0 ≡ labels p (matesOf mates) .spareLabel s
+      → (s : ℕ) → getD spare-label s 0 ≡ labels p (arrayMates mates) .spareLabel s

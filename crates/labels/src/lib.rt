@@ -11,13 +11,14 @@ ghost use Rattle.loops.specs.Loop.{behind};
 ghost use Rattle.bits.specs.Bit.{bit};
 ghost use Rattle.sets.specs.Sets.{member};
 ghost use Rattle.search.specs.State.{Below};
-ghost use Rattle.matching.specs.Progress.{Edges, costAt};
-ghost use Rattle.labels.specs.Store.{store, Sized, Filled, SparesFilled, Relabelled, MateSwept, TreeLabelled, SpareLabelled, Labellable, Labelled, treeNext, matchedBelow};
+ghost use Rattle.matching.specs.Progress.{Edges};
+ghost use Rattle.graph.specs.Rank.{costAt};
+ghost use Rattle.labels.specs.Store.{store, Sized, LabelsPut, SparesFilled, Relabelled, MateSwept, TreeLabelled, SpareLabelled, Labellable, Labelled, treeNext, matchedBelow};
 
 // Gives the label `x` to the members of a word, at places from `base` on.
 fn fill(word: u64, base: usize, x: u32, label: &mut [u32])
     requires { ⌜ base + 64 ≤ length (now label) ⌝ }
-    ensures { λ r. ⌜ Filled word base x (now (label .entry)) (now (label .exit)) ⌝ }
+    ensures { λ r. ⌜ LabelsPut word base x (now (label .entry)) (now (label .exit)) ⌝ }
 {
     let mut left = word;
     while left != 0 {
@@ -50,7 +51,8 @@ fn relabel(
     spare_label: &mut [u32; 256],
 )
     requires { ⌜ (length (now «old_live») ≡ 4) × (length (now «tree_label») ≡ 64) × (length (now «spare_label») ≡ 256) ⌝ }
-    ensures { λ r. ⌜ Relabelled x «old_trees» (now («old_live» .entry)) trees (now (live .entry)) (now («tree_label» .entry)) (now («spare_label» .entry)) (now («tree_label» .exit)) (now («spare_label» .exit)) ⌝ }
+    ensures { λ r. ⌜ Relabelled x «old_trees» (now («old_live» .entry)) trees (now (live .entry)) (now («tree_label» .entry)) (now («spare_label» .entry))
+        (now («tree_label» .exit)) (now («spare_label» .exit)) ⌝ }
 {
     fill(bits::less(trees, old_trees), 0, x, tree_label);
     fill_spares(x, old_live, live, spare_label);
@@ -65,7 +67,8 @@ fn explore_mate(
     live: &mut [u64; 4],
 )
     requires { ⌜ (s .0 < 256) × (length (now mates) ≡ 256) × (length (now live) ≡ 4) × Below 64 (now mates) ⌝ }
-    ensures { λ r. ⌜ MateSwept (s .0) (now (rows .entry)) (now (mates .entry)) (now («tree_seen» .entry)) (now (live .entry)) (now (mates .exit)) (now («tree_seen» .exit)) (now (live .exit)) ⌝ }
+    ensures { λ r. ⌜ MateSwept (s .0) (now (rows .entry)) (now (mates .entry)) (now («tree_seen» .entry)) (now (live .entry)) (now (mates .exit))
+        (now («tree_seen» .exit)) (now (live .exit)) ⌝ }
 {
     let mate = mates[s.0 as usize];
     if mate == 0 {
@@ -90,7 +93,9 @@ fn label_tree(
     spare_label: &mut [u32; 256],
 )
     requires { ⌜ (t .0 < 64) × Sized (store (now mates) (now «tree_done») (now live) (now «tree_label») (now «spare_label»)) ⌝ }
-    ensures { λ r. ⌜ TreeLabelled (t .0) x matched (now (rows .entry)) (store (now (mates .entry)) (now («tree_done» .entry)) (now (live .entry)) (now («tree_label» .entry)) (now («spare_label» .entry))) (store (now (mates .exit)) (now («tree_done» .exit)) (now (live .exit)) (now («tree_label» .exit)) (now («spare_label» .exit))) ⌝ }
+    ensures { λ r. ⌜ TreeLabelled (t .0) x matched (now (rows .entry))
+        (store (now (mates .entry)) (now («tree_done» .entry)) (now (live .entry)) (now («tree_label» .entry)) (now («spare_label» .entry)))
+        (store (now (mates .exit)) (now («tree_done» .exit)) (now (live .exit)) (now («tree_label» .exit)) (now («spare_label» .exit))) ⌝ }
 {
     if bits::has(matched, t.0) {
         return;
@@ -124,7 +129,9 @@ fn label_spare(
     spare_label: &mut [u32; 256],
 )
     requires { ⌜ (s .0 < 256) × Sized (store (now mates) (now «tree_done») (now live) (now «tree_label») (now «spare_label»)) ⌝ }
-    ensures { λ r. ⌜ SpareLabelled (s .0) x (now (rows .entry)) (store (now (mates .entry)) (now («tree_done» .entry)) (now (live .entry)) (now («tree_label» .entry)) (now («spare_label» .entry))) (store (now (mates .exit)) (now («tree_done» .exit)) (now (live .exit)) (now («tree_label» .exit)) (now («spare_label» .exit))) ⌝ }
+    ensures { λ r. ⌜ SpareLabelled (s .0) x (now (rows .entry)) (store (now (mates .entry)) (now («tree_done» .entry)) (now (live .entry))
+        (now («tree_label» .entry)) (now («spare_label» .entry))) (store (now (mates .exit)) (now («tree_done» .exit)) (now (live .exit))
+        (now («tree_label» .exit)) (now («spare_label» .exit))) ⌝ }
 {
     if !sets::contains(live, s.0) {
         return;
@@ -202,7 +209,8 @@ fn matched_trees(spares: u32, mates: &[u32; 256]) -> u64
 // Gives every spare rank its own cost as a label.
 fn own_costs(spares: u32, cost: &[u32; 256], ss: &[u32; 256], label: &mut [u32; 256])
     requires { ⌜ (spares ≤ 256) × Edges spares (now ss) × (length (now label) ≡ 256) ⌝ }
-    ensures labels { λ r. ⌜ ((s : ℕ) → getD (now (label .exit)) s 0 ≡ cond (ltb s spares) (costAt (now (cost .entry)) (now (ss .entry)) s) (getD (now (label .entry)) s 0)) ⌝ }
+    ensures labels { λ r. ⌜ ((s : ℕ) → getD (now (label .exit)) s 0 ≡ cond (ltb s spares) (costAt (now (cost .entry)) (now (ss .entry)) s)
+        (getD (now (label .entry)) s 0)) ⌝ }
     ensures length { λ r. ⌜ length (now (label .exit)) ≡ 256 ⌝ }
 {
     let mut s = 0;
@@ -237,7 +245,8 @@ pub fn label(
     spare_label: &mut [u32; 256],
 )
     requires { ⌜ Labellable trees spares (now cost) (now ts) (now ss) (now taken) (now mates) (now «tree_label») (now «spare_label») ⌝ }
-    ensures { λ r. ⌜ Labelled trees spares (now (cost .entry)) (now (ts .entry)) (now (ss .entry)) (now (rows .entry)) (now (mates .entry)) (now (mates .exit)) (now («tree_label» .exit)) (now («spare_label» .exit)) ⌝ }
+    ensures { λ r. ⌜ Labelled trees spares (now (cost .entry)) (now (ts .entry)) (now (ss .entry)) (now (rows .entry)) (now (mates .entry))
+        (now (mates .exit)) (now («tree_label» .exit)) (now («spare_label» .exit)) ⌝ }
 {
     let mut live = *taken;
     let mut left = still_left(spares, &live);

@@ -10,10 +10,11 @@ use mathlib.Core.List.{List, [], _∷_}
 use lib.ListN.{length, drop, getD, drop-of-length-le}
 use lib.Seq.{drop-cons}
 use borrow.Author.Tests.{lt-ltb, le-ltb}
-use Rattle.leb128.specs.Number.{Bytes, encode, extend, decode, located, readAt, Stands}
-use Rattle.leb128.specs.Number.Decoded.{number}
+use Rattle.number.specs.Number.{Bytes, encode, extend, decode}
+use Rattle.leb128.specs.Positions.{located, readAt, Stands, located-value, located-refused}
+use Rattle.number.specs.Number.Decoded.{number}
 use Rattle.leb128.specs.declared.Number.the-variants.{Value, Refused}
-use Rattle.leb128.specs.Laws.{bytes-drop, decode-bound, extend-zero, extend-more, located-value, located-refused}
+use Rattle.number.specs.Laws.{bytes-drop, decode-bound, extend-zero, extend-more}
 
 pub encode-none : (k x : ℕ) → k ≡ 0 → encode k x ≡ []
 unfolding encode

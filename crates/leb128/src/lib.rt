@@ -4,7 +4,8 @@ ghost use mathlib.Core.List.{[], _∷_};
 ghost use Prim.Native.Nat.{_+_, _≤_};
 ghost use lib.ListN.{length};
 ghost use lib.Seq.{sets};
-ghost use Rattle.leb128.specs.Number.{encode, readAt, Stands};
+ghost use Rattle.number.specs.Number.{encode};
+ghost use Rattle.leb128.specs.Positions.{readAt, Stands};
 ghost use Rattle.leb128.specs.declared.Number.the-variants.{Value};
 
 // What stands at a position of a frame.

@@ -7,14 +7,15 @@ use mathlib.Core.Bool.{Bool}
 use mathlib.Core.List.{List}
 use lib.ListN.{length}
 use Rattle.loops.specs.TestLaws.{clash}
-use Rattle.leb128.specs.Number.{Bytes}
+use Rattle.number.specs.Number.{Bytes}
 use Rattle.records.specs.declared.Link.{Link}
-use Rattle.records.specs.Records.{firsts, allSmall}
+use Rattle.records.specs.Records.{firstLinks, allSmall}
 use Rattle.frame.specs.Job.{Job, jobNumbers, jobFrame}
 use Rattle.frame.specs.Questions.{jobOf}
-use Rattle.frame.specs.Answers.{answerFrame, answerOf}
+use Rattle.frame.specs.Answers.{answerOf}
+use Rattle.frame.specs.AnswerMeaning.{answerFrame}
 use Rattle.frame.specs.Services.{Place, nowhere, written}
-use Rattle.job.specs.declared.write.Reply.{Reply}
+use Rattle.codec.specs.declared.Reply.{Reply}
 use Rattle.accept.specs.ListJobs.{listJob, Given}
 use Rattle.accept.specs.ListJobLaws.{lent}
 use Rattle.accept.specs.ListAskedLaws.{numbers-bytes}
@@ -30,14 +31,14 @@ use Rattle.lists.specs.ListServiceLaws.{untouched-written, small-written
 
 -- What is given of the list ys.
 abbrev pub Lent : ℕ → List Link → (ℕ → Type 0) → (Job → Type 0) → Type 0
-Lent nodes ys = Given nodes (length ys) (allSmall ys) (firsts 256 ys)
+Lent nodes ys = Given nodes (length ys) (allSmall ys) (firstLinks 256 ys)
 
 -- What is given is of the list ys, if it is its length, the word on it and its copy.
 pub lent-as :
     (nodes : ℕ) (ys : List Link) (Early : ℕ → Type 0) (Said : Job → Type 0) {n : ℕ} {word : Bool} {links : List Link} →
     n ≡ length ys →
     word ≡ allSmall ys →
-    links ≡ firsts 256 ys →
+    links ≡ firstLinks 256 ys →
     Given nodes n word links Early Said →
     Lent nodes ys Early Said
 lent-as nodes ys Early Said {n} {word} {links} size test copy g =
@@ -55,7 +56,11 @@ module _ (nodes : ℕ) (ys : List Link) where
       (λ f e. record { large = λ _. e; said = λ y. clash y f })
       (λ y two e.
       let s = jobFrame (listJob nodes ys) in
-      record { large = λ f. clash y f; said = λ _. refused-judged s (numbers-bytes (jobNumbers (listJob nodes ys))) (word s) (Claim s) 2 two (λ z. omega (arith, z)) r e })
+      record {
+        large = λ f. clash y f;
+        said = λ _.
+            refused-judged s (numbers-bytes (jobNumbers (listJob nodes ys))) (word s) (Claim s) 2 two (λ z. omega (arith, z)) r e;
+      })
 
   pub lent-answered :
       (area : List ℕ) (r : Reply) (after : List ℕ) →
@@ -97,5 +102,6 @@ module _ (nodes : ℕ) (ys : List Link) where
       (λ y two is.
       record {
         large = λ n. clash y n;
-        said = λ _. cost-refused-nowhere (jobFrame (listJob nodes ys)) f (numbers-bytes (jobNumbers (listJob nodes ys))) b e (λ z. omega (arith, two, z)) place is;
+        said =
+            λ _. cost-refused-nowhere (jobFrame (listJob nodes ys)) f (numbers-bytes (jobNumbers (listJob nodes ys))) b e (λ z. omega (arith, two, z)) place is;
       })

@@ -1,13 +1,12 @@
 -- A list is accepted as its frame is, and so is said of it what is said of the frame. Assumes nothing.
-use Prim.Native.Nat.{ℕ, zero, suc, _+_, _≤_}
+use Prim.Native.Nat.{ℕ, zero, suc, _≤_}
 use native.Mathlib.Decide.{ℕ-discrete}
 use native.Mathlib.Omega.{arith}
 use mathlib.Core.Path.{_≡_, refl, sym, ap, subst, _∙_}
-use mathlib.Core.Logic.{_≢_, ⊎-map, ⊎-elim}
+use mathlib.Core.Logic.{_≢_, ⊎-elim}
 use mathlib.Core.Bool.{Bool, true, false}
 use mathlib.Core.List.{List}
-use lib.ListN.{length, take, drop}
-use lib.Seq.{take-at}
+use lib.ListN.{length, take}
 use Rattle.loops.specs.TestLaws.{truth, clash}
 use Rattle.records.specs.declared.Link.{Link}
 use Rattle.frame.specs.Job.{Job, jobNumbers, jobFrame}
@@ -15,12 +14,14 @@ use Rattle.frame.specs.Questions.{jobOf, refusal}
 use Rattle.frame.specs.Services.{Outcome, Place, nowhere, small, written}
 use Rattle.frame.specs.Form.{first-no}
 use Rattle.frame.specs.Lists.{list-read}
-use Rattle.frame.specs.Outcomes.{accepted-written, refused-untouched}
-use Rattle.job.specs.declared.read.Header.{Header}
-use Rattle.job.specs.declared.write.Reply.{Reply}
-use Rattle.job.specs.Writing.{jobAt, outcome}
-use Rattle.job.specs.WritingLaws.{written-refused}
-use Rattle.accept.specs.Accepting.{Asked, refusedHeader}
+use Rattle.frame.specs.Outcomes.{served-of, served-none}
+use Rattle.job.specs.declared.Header.{Header}
+use Rattle.codec.specs.declared.Reply.{Reply}
+use Rattle.links.specs.Columns.{jobAt}
+use Rattle.codec.specs.Numbers.{outcome}
+use Rattle.codec.specs.WritingLaws.{put-refused}
+use Rattle.accept.specs.Accepting.{Asked}
+use Rattle.job.specs.Reading.{refusedHeader}
 use Rattle.accept.specs.AcceptLaws.{accepted-number, accepted-nodes, accepted-edges, accepted-few}
 use Rattle.accept.specs.ListJobs.{listJob, countRefusal, Given, ListAccepted}
 use Rattle.accept.specs.ListAcceptLaws.{held-job}
@@ -28,7 +29,6 @@ use Rattle.accept.specs.ListAskedLaws.{numbers-bytes, list-asked, asked-large}
 use Rattle.judging.specs.declared.Verdict.{Verdict}
 use Rattle.judging.specs.declared.Verdict.the-variants.{Refused}
 use Rattle.answering.specs.Answering.{Answered, Untouched}
-use Rattle.answering.specs.AnswerLaws.{number-of, number-zero}
 use Rattle.finding.specs.Parts.{CostLocated}
 use Rattle.lists.specs.ListServices.{ListWritten, ListAnswered, ListJudged, ListCostLocated}
 
@@ -43,49 +43,39 @@ module _ {area : List ℕ} {r : Reply} {after : List ℕ} where
   -- A refusal leaves the area untouched, and the other way round.
   untouched : (n : ℕ) (bytes : List ℕ) → n ≢ 0 → outcome r after ≡ written n bytes 0 area → Untouched n area r after
   untouched n bytes nonzero e =
-      let o = e ∙ sym (written-refused n bytes 0 area nonzero) in
+      let o = e ∙ sym (put-refused n bytes 0 area nonzero) in
       record { number = ap (λ (o : Outcome). o .refusal) o; nothing = ap (λ (o : Outcome). o .size) o; same = ap (λ (o : Outcome). o .area) o }
 
   pub untouched-written : (n : ℕ) (bytes : List ℕ) → n ≢ 0 → Untouched n area r after → outcome r after ≡ written n bytes 0 area
   untouched-written n bytes nonzero u =
-      let left : outcome r after ≡ record { refusal = n; size = 0; area = area } = λ i. record { refusal = u .number i; size = u .nothing i; area = u .same i } in
-      left ∙ written-refused n bytes 0 area nonzero
+      let left : outcome r after ≡ record { refusal = n; size = 0; area = area } = λ i.
+      record { refusal = u .number i; size = u .nothing i; area = u .same i } in
+      left ∙ put-refused n bytes 0 area nonzero
 
 -- What the writer promises follows from its reply to a job whose numbers are small.
-module _ (j : Job) (y : small j ≡ true) (area : List ℕ) (r : Reply) (after : List ℕ) (e : outcome r after ≡ written (refusal (jobFrame j)) (jobFrame j) 0 area) where
-  number-is : r .refusal ≡ written (refusal (jobFrame j)) (jobFrame j) 0 area .refusal
-  number-is = ap (λ (o : Outcome). o .refusal) e
-
-  reads-back : r .refusal ≡ 0 → (refusal (take (r .length) after) ≡ 0) × (jobOf (take (r .length) after) ≡ j)
-  reads-back z =
-      let bytes = jobFrame j in
-      let number : written (refusal bytes) bytes 0 area .refusal ≡ 0 = sym number-is ∙ z in
-      let whole = e ∙ accepted-written bytes 0 area (refusal bytes) number in
-      let size : r .length ≡ length bytes = ap (λ (o : Outcome). o .size) whole in
-      let front : take (r .length) after ≡ bytes = ap (λ (o : Outcome). take (r .length) (o .area)) whole ∙ take-at bytes (drop (0 + length bytes) area) (r .length) (sym size) in
-      (ap refusal front ∙ number-zero (refusal bytes) bytes area number, ap jobOf front ∙ list-read j y)
-
-  pub small-written : ListWritten j area r after
-  small-written =
-      record {
-        large = λ f. clash y f;
-        said = λ _. e;
-        first = λ _. first-no (jobFrame j) (numbers-bytes (jobNumbers j));
-        number = λ _. ⊎-map (λ q. number-is ∙ q) (λ q. (q .0, number-is ∙ q .1, q .2)) (number-of (refusal (jobFrame j)) (jobFrame j) area);
-        refused = λ n.
-            let (z, same) = refused-untouched (jobFrame j) 0 area (refusal (jobFrame j)) (λ z. n (number-is ∙ z)) in
-            (ap (λ (o : Outcome). o .size) e ∙ z, ap (λ (o : Outcome). o .area) e ∙ same);
-        reads = reads-back;
-      }
+pub small-written :
+    (j : Job) →
+    small j ≡ true →
+    (area : List ℕ) (r : Reply) (after : List ℕ) →
+    outcome r after ≡ written (refusal (jobFrame j)) (jobFrame j) 0 area →
+    ListWritten j area r after
+small-written j y area r after e =
+    let served = served-of (refusal (jobFrame j)) (jobFrame j) area (outcome r after) e in
+    record {
+      large = λ f. clash y f;
+      served = λ _. served;
+      first = λ _. first-no (jobFrame j) (numbers-bytes (jobNumbers j));
+      refused = served .refused;
+      reads = λ z. let front = served .front z in (ap refusal front ∙ served-none served z, ap jobOf front ∙ list-read j y);
+    }
 
 -- A list with a large number is refused by question 1.
 pub large-written : (j : Job) → small j ≡ false → (area : List ℕ) (r : Reply) (after : List ℕ) → Untouched 1 area r after → ListWritten j area r after
 large-written j f area r after u =
     record {
       large = λ _. u;
-      said = λ y. clash y f;
+      served = λ y. clash y f;
       first = λ y. clash y f;
-      number = λ y. clash y f;
       refused = λ _. (u .nothing, u .same);
       reads = λ z. absurd (omega (arith, z, u .number));
     }
@@ -126,10 +116,12 @@ module _ {h : Header} {as₁ as₂ as₃ as₄ ts mask : List ℕ} (j : Job) (a 
         said = λ y. said (jobFrame j) (list-asked j y a);
       }
 
-  module _ (area : List ℕ) (r : Reply) (after : List ℕ) (e : outcome r after ≡ written (h .refusal) (jobFrame (jobAt (h .nodes) (h .edges) as₁ as₂ as₃ as₄)) 0 area) where
+  module _ (area : List ℕ) (r : Reply) (after : List ℕ)
+      (e : outcome r after ≡ written (h .refusal) (jobFrame (jobAt (h .nodes) (h .edges) as₁ as₂ as₃ as₄)) 0 area) where
     held-frame : small j ≡ true → h .refusal ≡ 0 → jobFrame (jobAt (h .nodes) (h .edges) as₁ as₂ as₃ as₄) ≡ jobFrame j
     held-frame y z =
-        ap jobFrame (held-job (jobOf (jobFrame j)) (h .nodes) (h .edges) as₁ as₂ as₃ as₄ ts mask (a .held y z) (accepted-nodes (jobFrame j) h (a .header y) z) (accepted-edges (jobFrame j) h (a .header y) z) ∙ list-read j y)
+        ap jobFrame (held-job (jobOf (jobFrame j)) (h .nodes) (h .edges) as₁ as₂ as₃ as₄ ts mask (a .held y z) (accepted-nodes (jobFrame j) h (a .header y) z)
+        (accepted-edges (jobFrame j) h (a .header y) z) ∙ list-read j y)
 
     frame-said : small j ≡ true → outcome r after ≡ written (refusal (jobFrame j)) (jobFrame j) 0 area
     frame-said y =
@@ -179,14 +171,16 @@ module _ {nodes count : ℕ} {word : Bool} {links : List Link} {h : Header} {as�
       ((s : List ℕ) → Asked s h as₁ as₂ as₃ as₄ ts mask → Answered s area r after) →
       (h .refusal ≢ 0 → Untouched (h .refusal) area r after) →
       Given nodes count word links (λ n. Untouched n area r after) (λ j. ListAnswered j area r after)
-  given-answered area r after said refused = record { refused = early (λ n. Untouched n area r after) refused; said = λ z. list-answered _ (g .said z) area r after said refused }
+  given-answered area r after said refused =
+      record { refused = early (λ n. Untouched n area r after) refused; said = λ z. list-answered _ (g .said z) area r after said refused }
 
   pub given-located :
       (f : List ℕ) (e : ℕ) (place : Place) →
       ((s : List ℕ) → Asked s h as₁ as₂ as₃ as₄ ts mask → CostLocated s f e place) →
       (h .refusal ≢ 0 → place ≡ nowhere) →
       Given nodes count word links (λ _. place ≡ nowhere) (λ j. ListCostLocated j f e place)
-  given-located f e place said refused = record { refused = early (λ _. place ≡ nowhere) refused; said = λ z. list-located _ (g .said z) f e place said refused }
+  given-located f e place said refused =
+      record { refused = early (λ _. place ≡ nowhere) refused; said = λ z. list-located _ (g .said z) f e place said refused }
 
   pub given-written :
       (area : List ℕ) (r : Reply) (after : List ℕ) →

@@ -1,17 +1,17 @@
 -- What the services say of a list of links: what they say of the frame that the list encodes, if every number of the list is
 -- small; else that question 1 refuses it. Definitions only. Assumes nothing.
-use Prim.Native.Nat.{ℕ, _<_}
+use Prim.Native.Nat.{ℕ}
 use mathlib.Core.Path.{_≡_}
-use mathlib.Core.Logic.{_≢_, _⊎_}
+use mathlib.Core.Logic.{_≢_}
 use mathlib.Core.Bool.{true, false}
 use mathlib.Core.List.{List}
-use lib.ListN.{length, take}
+use lib.ListN.{take}
 use Rattle.frame.specs.Job.{Job, jobFrame}
 use Rattle.frame.specs.Questions.{jobOf, refusal}
-use Rattle.frame.specs.Services.{Place, nowhere, small, written}
+use Rattle.frame.specs.Services.{Served, small, Place, nowhere}
 use Rattle.frame.specs.Meaning.{FirstNo}
-use Rattle.job.specs.declared.write.Reply.{Reply}
-use Rattle.job.specs.Writing.{outcome}
+use Rattle.codec.specs.declared.Reply.{Reply}
+use Rattle.codec.specs.Numbers.{outcome}
 use Rattle.judging.specs.declared.Verdict.{Verdict}
 use Rattle.judging.specs.declared.Verdict.the-variants.{Refused}
 use Rattle.answering.specs.Answering.{Answered, Untouched}
@@ -21,11 +21,10 @@ use Rattle.finding.specs.Parts.{CostLocated}
 pub record ListWritten (j : Job) (area : List ℕ) (r : Reply) (after : List ℕ) : Type 0 where
   pub large : small j ≡ false → Untouched 1 area r after
   -- number, length and every byte: questions 1 to 7 of the frame that the list encodes
-  pub said : small j ≡ true → outcome r after ≡ written (refusal (jobFrame j)) (jobFrame j) 0 area
-  -- the number: the first "no" of questions 1 to 6; or 7, if none is and the area is too short; or 0
+  pub served : small j ≡ true → Served (refusal (jobFrame j)) (jobFrame j) area (outcome r after)
+  -- the number before question 7 is that of the first "no" of questions 1 to 6
   pub first : small j ≡ true → FirstNo (jobFrame j) (refusal (jobFrame j))
-  pub number : small j ≡ true → (r .refusal ≡ refusal (jobFrame j)) ⊎ ((refusal (jobFrame j) ≡ 0) × (r .refusal ≡ 7) × (length area < length (jobFrame j)))
-  -- a refusal writes nothing
+  -- any refusal writes nothing
   pub refused : r .refusal ≢ 0 → (r .length ≡ 0) × (after ≡ area)
   -- what was written is accepted and reads as the list
   pub reads : r .refusal ≡ 0 → (refusal (take (r .length) after) ≡ 0) × (jobOf (take (r .length) after) ≡ j)

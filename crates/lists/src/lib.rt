@@ -6,15 +6,15 @@ ghost use Rattle.judging.specs.Verdicts.{TreeJudged, AnswerJudged};
 ghost use Rattle.judging.specs.declared.Verdict.the-variants.{Refused};
 ghost use Rattle.answering.specs.Answering.{Untouched};
 ghost use Rattle.frame.specs.Services.{nowhere};
-ghost use Rattle.job.specs.Finding.{placeOf};
+ghost use Rattle.codec.specs.Numbers.{placeOf};
 ghost use Rattle.accept.specs.ListJobs.{Given};
 ghost use Rattle.lists.specs.ListServices.{ListWritten, ListAnswered, ListJudged, ListCostLocated};
 use accept::accept_links;
 use answering::answer_held;
+use codec::Part;
+use codec::Reply;
 use finding::locate_cost_held;
 use ids::Edge;
-use job::find::Part;
-use job::write::Reply;
 use judging::Verdict;
 use judging::judge_answer_held;
 use judging::judge_held;
@@ -28,7 +28,8 @@ pub fn write_links(
     links: [Link; 256],
     area: &mut [u8],
 ) -> Reply
-    ensures { λ r. ⌜ Given nodes count small links (λ n. Untouched n (now (area .entry)) r (now (area .exit))) (λ j. ListWritten j (now (area .entry)) r (now (area .exit))) ⌝ }
+    ensures { λ r. ⌜ Given nodes count small links (λ n. Untouched n (now (area .entry)) r (now (area .exit)))
+        (λ j. ListWritten j (now (area .entry)) r (now (area .exit))) ⌝ }
 {
     let mut end1 = [0u32; 256];
     let mut end2 = [0u32; 256];
@@ -49,7 +50,7 @@ pub fn write_links(
         &mut mask,
     );
     let edges = header.edges as usize;
-    job::write::write_job(
+    job_write::write_job(
         header.refusal,
         header.nodes,
         edges,
@@ -126,7 +127,8 @@ pub fn answer_links(
     links: [Link; 256],
     area: &mut [u8],
 ) -> Reply
-    ensures { λ r. ⌜ Given nodes count small links (λ n. Untouched n (now (area .entry)) r (now (area .exit))) (λ j. ListAnswered j (now (area .entry)) r (now (area .exit))) ⌝ }
+    ensures { λ r. ⌜ Given nodes count small links (λ n. Untouched n (now (area .entry)) r (now (area .exit)))
+        (λ j. ListAnswered j (now (area .entry)) r (now (area .exit))) ⌝ }
 {
     let mut end1 = [0u32; 256];
     let mut end2 = [0u32; 256];

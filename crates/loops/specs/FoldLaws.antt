@@ -21,7 +21,12 @@ module _ {A : Type 0} (_⊕_ : A → A → A) (z : A) where
   fold-same (suc m) f g h = ap₂ _⊕_ (fold-same m f g (λ i k. h i (omega arith))) (h m (omega arith))
 
   -- The last two summands may change places.
-  pub fold-change : ((a b c : A) → (a ⊕ b) ⊕ c ≡ (a ⊕ c) ⊕ b) → (m : ℕ) (f g : ℕ → A) (i : ℕ) → i < m → ((j : ℕ) → j < m → j ≢ i → f j ≡ g j) → fold m f ⊕ g i ≡ fold m g ⊕ f i
+  pub fold-change :
+      ((a b c : A) → (a ⊕ b) ⊕ c ≡ (a ⊕ c) ⊕ b) →
+      (m : ℕ) (f g : ℕ → A) (i : ℕ) →
+      i < m →
+      ((j : ℕ) → j < m → j ≢ i → f j ≡ g j) →
+      fold m f ⊕ g i ≡ fold m g ⊕ f i
   unfolding fold
   fold-change swap zero f g i k h = absurd (omega arith)
   fold-change swap (suc m) f g i k h = elim (last-or-below k) [ inl e ↦ at-last e | inr l ↦ before l (fold-change swap m f g i l (λ j b. h j (omega arith))) ]

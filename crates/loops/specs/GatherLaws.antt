@@ -8,7 +8,8 @@ use mathlib.Core.Logic.{_⊎_, inl, inr}
 use mathlib.Core.List.{List, [], _∷_, List·Memᴰ, List·Memᴰ·not-nil, List·Memᴰ·append-cases, Memᴰ·append-left, Memᴰ·append-right}
 use lib.ListN.{length, getD, length-append, List·getD-append}
 use lib.Seq.{getD-at, ext-getD}
-use Rattle.loops.specs.Loop.{sum, gather, tabulate}
+use Rattle.loops.specs.Below.{sum}
+use Rattle.loops.specs.Loop.{gather, tabulate}
 use Rattle.loops.specs.SumLaws.{sumOver, sumOver-append}
 use Rattle.loops.specs.Ordered.{Ordered, ordered-append}
 

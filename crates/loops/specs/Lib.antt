@@ -1,4 +1,5 @@
 -- What loops over numbers below a bound compute.
+pub mod Below
 pub mod Loop
 pub mod TestLaws
 pub mod PutLaws

@@ -1,7 +1,7 @@
--- What loops over the numbers below a bound compute: a state, a sum, a test of all, the first hit, a list.
+-- What loops over the numbers below a bound compute: a state, the first hit, a list; with what stands in Below.
 -- Definitions only. Assumes nothing.
 use Prim.Native.Nat.{ℕ, zero, suc, _+_, _*_}
-use mathlib.Core.Bool.{Bool, true, false, cond, _&&_}
+use mathlib.Core.Bool.{Bool, cond, _&&_}
 use mathlib.Core.List.{List, [], _∷_, _++_}
 use lib.Dec.{ltb, eqb}
 
@@ -10,24 +10,9 @@ unfoldable pub scan : {A : Type 0} → (ℕ → A → A) → ℕ → ℕ → A �
 scan body zero i st = st
 scan body (suc turns) i st = scan body turns (suc i) (body i st)
 
--- x or y, as b says; only the one that is wanted is computed.
-abbrev pub choose : {A : Type 0} → Bool → (Unit {0} → A) → (Unit {0} → A) → A
-choose true x y = x tt
-choose false x y = y tt
-
 -- The function f with the value x at i.
 abbrev pub put : {A : Type 0} → (ℕ → A) → ℕ → A → ℕ → A
 put f i x j = cond (eqb i j) x (f j)
-
--- f 0 + f 1 + .. below n.
-unfoldable pub sum : ℕ → (ℕ → ℕ) → ℕ
-sum zero f = zero
-sum (suc n) f = sum n f + f n
-
--- p holds of every number below n.
-unfoldable pub allBelow : ℕ → (ℕ → Bool) → Bool
-allBelow zero p = true
-allBelow (suc n) p = allBelow n p && p n
 
 -- The lowest number below n of which p holds; n if there is none.
 unfoldable pub first : ℕ → (ℕ → Bool) → ℕ

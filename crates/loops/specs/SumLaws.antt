@@ -5,10 +5,12 @@ use mathlib.Core.Path.{_≡_, refl, sym, ap, _∙_}
 use mathlib.Core.Logic.{_≢_}
 use mathlib.Core.List.{List, [], _∷_, _++_, List·Memᴰ, List·Memᴰ·head, List·Memᴰ·tail}
 use native.Mathlib.Nat.{suc-mul}
+use native.Mathlib.Numerals.{add-one}
 use native.Mathlib.Omega.{arith}
 use native.Mathlib.Decide.{ℕ-discrete}
 use lib.ListN.{length, getD}
-use Rattle.loops.specs.Loop.{sum, put}
+use Rattle.loops.specs.Below.{sum}
+use Rattle.loops.specs.Loop.{put}
 use Rattle.loops.specs.PutLaws.{put-same, put-other}
 use Rattle.loops.specs.FoldLaws.{fold, fold-same, fold-change}
 
@@ -87,3 +89,8 @@ module _ {A : Type 0} (f : A → ℕ) where
         sumOver-most xs b (λ y m. most y (List·Memᴰ·tail m)),
         suc-mul (length xs) b,
       )
+
+-- One number more.
+pub sum-more : (f : ℕ → ℕ) (e : ℕ) → sum (e + 1) f ≡ sum e f + f e
+unfolding sum
+sum-more f e = rw add-one

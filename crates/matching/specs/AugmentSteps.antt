@@ -10,7 +10,8 @@ use mathlib.Core.List.{List}
 use lib.Dec.{ltb, eqb}
 use lib.ListN.{length, getD}
 use borrow.Author.Tests.{le-ltb, ltb-true, not-true}
-use Rattle.loops.specs.Loop.{choose, first}
+use Rattle.loops.specs.Below.{choose}
+use Rattle.loops.specs.Loop.{first}
 use Rattle.loops.specs.TestLaws.{clash, and-first, and-second, and-both, same-test}
 use Rattle.loops.specs.FirstLaws.{First, first-is, first-found, some-of, some-at}
 use Rattle.bits.specs.Bit.{bit}
@@ -19,8 +20,9 @@ use Rattle.sets.specs.Sets.{member, inRow, inSome}
 use Rattle.sets.specs.SetsLaws.{member-put}
 use Rattle.optimum.specs.Search.{Problem, Mates, Search, search, Progress, begun, coversSome, newTrees, goalOf, cheapestOf, worth, turned, augmentReached, augment}
 use Rattle.optimum.specs.SearchLaws.{Explored, Always, search-fails}
-use Rattle.search.specs.State.{matesOf, stateOf, Below, Rows}
-use Rattle.matching.specs.Progress.{progressOf, costAt, Holds, gain, Seekable, Sought, Ready, Augmented}
+use Rattle.search.specs.State.{arrayMates, stateOf, Below, Rows}
+use Rattle.matching.specs.Progress.{progressOf, Holds, gain, Seekable, Sought, Augmentable, Augmented}
+use Rattle.graph.specs.Rank.{costAt}
 
 -- The model's ways.
 module _ (p : Problem) (t : ℕ) (pr : Progress) where
@@ -33,7 +35,10 @@ module _ (p : Problem) (t : ℕ) (pr : Progress) where
   unfolding augment
   augment-tried h st e = rw (h, e)
 
-  reached-on : (st : Search) → worth p t (goalOf p pr st) ≡ true → augmentReached p t pr st ≡ turned pr (goalOf p pr st) (search p (goalOf p pr st) t (begun pr))
+  reached-on :
+      (st : Search) →
+      worth p t (goalOf p pr st) ≡ true →
+      augmentReached p t pr st ≡ turned pr (goalOf p pr st) (search p (goalOf p pr st) t (begun pr))
   reached-on st h = rw h
 
   reached-off : (st : Search) → worth p t (goalOf p pr st) ≡ false
@@ -103,19 +108,21 @@ module _
         forth h =
             let (x, b, both) = some-at 64 (λ x. T x && inRow rows x s) h in
             let k : x < p .trees = below x (and-first _ _ both) .0 in
-            some-of (p .trees) (λ x. T x && p .covers x s) x k (and-both (T x) (p .covers x s) (and-first _ _ both) (are .covered x s k l ∙ and-second (T x) _ both))
+            some-of (p .trees) (λ x. T x && p .covers x s) x k
+            (and-both (T x) (p .covers x s) (and-first _ _ both) (are .covered x s k l ∙ and-second (T x) _ both))
 
         back : coversSome p T s ≡ true → inSome rows T s ≡ true
         back h =
             let (x, k, both) = some-at (p .trees) (λ x. T x && p .covers x s) h in
-            some-of 64 (λ x. T x && inRow rows x s) x (below x (and-first _ _ both) .1) (and-both (T x) (inRow rows x s) (and-first _ _ both) (sym (are .covered x s k l) ∙ and-second (T x) _ both))
+            some-of 64 (λ x. T x && inRow rows x s) x (below x (and-first _ _ both) .1)
+            (and-both (T x) (inRow rows x s) (and-first _ _ both) (sym (are .covered x s k l) ∙ and-second (T x) _ both))
 
 module _
     (t spares : ℕ)
     (cost ts ss rows mates taken : List ℕ)
     (trees : ℕ)
     (live : List ℕ)
-    (r : Ready t spares ts ss mates taken trees live)
+    (r : Augmentable t spares ts ss mates taken trees live)
     (c : ℕ)
     (lowest : c ≡ first 256 (λ s. not (member taken s)))
   where
@@ -173,7 +180,12 @@ module _
               (ap (λ (j : ℕ). search p j t (begun pr)) (cheapest-is p h l) ∙ sym (first-search .equal p (h .rows-are) b l))
 
           -- The cheapest has been met.
-          pub augmented-met : met ≡ true → (live′ : List ℕ) → ((j : ℕ) → member live′ j ≡ (member live j || eqb c j)) → length live′ ≡ 4 → Out mates₁ taken₁ trees live′
+          pub augmented-met :
+              met ≡ true →
+              (live′ : List ℕ) →
+              ((j : ℕ) → member live′ j ≡ (member live j || eqb c j)) →
+              length live′ ≡ 4 →
+              Out mates₁ taken₁ trees live′
           augmented-met m live′ more size =
               record {
                 mates-length = first-search .mates-length;
@@ -183,7 +195,7 @@ module _
                 unseen = λ n k b u. u;
                 taken-are = first-search .taken-are;
                 equal = λ p h b l.
-                    ap (λ (f : ℕ → Bool). record { mates = matesOf mates₁; treeDead = bit trees; spareLive = f }) (member-put live live′ c more)
+                    ap (λ (f : ℕ → Bool). record { mates = arrayMates mates₁; treeDead = bit trees; spareLive = f }) (member-put live live′ c more)
                     ∙ ap (λ (j : ℕ). turned pr j (stateOf mates₁ trees₁ live₁ true)) (sym (cheapest-is p h l))
                     ∙ sym (rw m at (tried p h b l));
               }
@@ -213,7 +225,7 @@ module _
               (g : ℕ)
               (goal : g ≡ first 256 (λ s. inSome rows (bit news) s && not (member taken₁ s)))
             where
-              same : matesOf mates₁ ≡ matesOf mates
+              same : arrayMates mates₁ ≡ arrayMates mates
               same = first-search .same m
 
               goal-first : First 256 (λ s. inSome rows (bit news) s && not (member taken₁ s)) g
@@ -229,7 +241,7 @@ module _
                   is : stateOf mates₁ trees₁ live₁ false ≡ st
                   is = ap (stateOf mates₁ trees₁ live₁) (sym m) ∙ first-search .equal p are b l
 
-                  explored : Explored p c (matesOf mates) (λ x. x < p .trees) Always (stateOf mates trees live false) t st
+                  explored : Explored p c (arrayMates mates) (λ x. x < p .trees) Always (stateOf mates trees live false) t st
                   explored =
                       search-fails p c (stateOf mates trees live false) (λ x. x < p .trees) Always
                       record { to-spare = λ x s k o e f. tt; to-mate = λ s x k o e f. omega (arith, b s, e) }
@@ -245,7 +257,8 @@ module _
                   small = elim (decLt x 64) [ yes k ↦ k | no k ↦ clash q (bit-past 64 news x word (omega arith)) ]
 
               goal-same : (p : Problem) → Holds p spares cost ts ss rows → Below (p .trees) mates → t < p .trees → (s : ℕ) → s < p .spares
-                  → (inSome rows (bit news) s && not (member taken₁ s)) ≡ (coversSome p (newTrees pr (stateOf mates₁ trees₁ live₁ false)) s && eqb (getD mates s 0) 0)
+                  → (inSome rows (bit news) s && not (member taken₁ s)) ≡ (coversSome p (newTrees pr (stateOf mates₁ trees₁ live₁ false)) s && eqb
+                  (getD mates s 0) 0)
               goal-same p h b l s k =
                   rw (
                     first-search .taken-are s (omega (arith, h .rows-are .few)),
@@ -269,12 +282,16 @@ module _
                     unseen = first-search .unseen;
                     taken-are = first-search .taken-are;
                     equal = λ p h b l.
-                        ap₂ (λ (f : Mates) (v : ℕ → Bool). record { mates = f; treeDead = bit trees₁; spareLive = v }) same (fun-ext (λ s. sym (Bool·not-not (member live₁ s))))
+                        ap₂ (λ (f : Mates) (v : ℕ → Bool). record { mates = f; treeDead = bit trees₁; spareLive = v }) same
+                        (fun-ext (λ s. sym (Bool·not-not (member live₁ s))))
                         ∙ sym (failed p h b l ∙ reached-off p t pr (stateOf mates₁ trees₁ live₁ false)
                         (worth-same p spares cost ts ss rows h t l _ _ (goal-same p h b l) g goal-first ∙ off));
                   }
 
-              pub augmented-on : gain spares cost ts ss t g ≡ true → (mates₂ taken₂ : List ℕ) (trees₂ : ℕ) (live₂ : List ℕ) (met₂ : Bool) → Sought t g rows mates₁ trees live mates₂ taken₂ trees₂ live₂ met₂
+              pub augmented-on :
+                  gain spares cost ts ss t g ≡ true →
+                  (mates₂ taken₂ : List ℕ) (trees₂ : ℕ) (live₂ : List ℕ) (met₂ : Bool) →
+                  Sought t g rows mates₁ trees live mates₂ taken₂ trees₂ live₂ met₂
                   → (live′ : List ℕ) → ((j : ℕ) → member live′ j ≡ (member live j || eqb g j)) → length live′ ≡ 4
                   → Out mates₂ taken₂ trees live′
               augmented-on gains mates₂ taken₂ trees₂ live₂ met₂ second-search live′ more size =
@@ -287,7 +304,7 @@ module _
                     taken-are = second-search .taken-are;
                     equal = λ p h b l.
                         let is = found-worth p spares cost ts ss rows h t l _ _ (goal-same p h b l) g goal-first gains in
-                        ap (λ (f : ℕ → Bool). record { mates = matesOf mates₂; treeDead = bit trees; spareLive = f }) (member-put live live′ g more)
+                        ap (λ (f : ℕ → Bool). record { mates = arrayMates mates₂; treeDead = bit trees; spareLive = f }) (member-put live live′ g more)
                         ∙ ap (turned pr g)
                         (second-search .equal p (h .rows-are) (first-search .below (p .trees) l b) l
                         ∙ ap (λ (f : Mates). search p g t (record { mates = f; treeSeen = bit trees; spareSeen = λ s. not (member live s); met = false })) same)

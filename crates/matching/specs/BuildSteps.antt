@@ -14,7 +14,7 @@ use Rattle.sets.specs.Sets.{member}
 use Rattle.sets.specs.SetsLaws.{member-none}
 use Rattle.optimum.specs.Search.{Problem, Mates, Progress, augment, unmatched}
 use Rattle.search.specs.State.{Below, Taken}
-use Rattle.matching.specs.Progress.{progressOf, Holds, Unseen, Ready, Augmented, Buildable, Built}
+use Rattle.matching.specs.Progress.{progressOf, Holds, Unseen, Augmentable, Augmented, Buildable, Built}
 
 -- What the loop keeps.
 pub record Building (trees spares : ℕ) (cost ts ss rows mates taken : List ℕ) (dead-trees : ℕ) (live : List ℕ) (t : ℕ) : Type 0 where
@@ -48,8 +48,13 @@ module _ (trees spares : ℕ) (cost ts ss rows mates taken : List ℕ) (h : Buil
         equal = λ p e q. scan-start (augment p) trees (progressOf mates 0 (replicate 4 0)) ∙ ap (scan (augment p) trees 0) empty-is;
       }
 
-module _ (trees spares : ℕ) (cost ts ss rows mates taken : List ℕ) (dead-trees : ℕ) (live : List ℕ) (t : ℕ) (h : Building trees spares cost ts ss rows mates taken dead-trees live t) where
-  pub building-ready : (mates₀ taken₀ : List ℕ) → Buildable trees spares ts ss mates₀ taken₀ → t < trees → Ready t spares ts ss mates taken dead-trees live
+module _ (trees spares : ℕ) (cost ts ss rows mates taken : List ℕ) (dead-trees : ℕ) (live : List ℕ) (t : ℕ)
+    (h : Building trees spares cost ts ss rows mates taken dead-trees live t) where
+  pub building-ready :
+      (mates₀ taken₀ : List ℕ) →
+      Buildable trees spares ts ss mates₀ taken₀ →
+      t < trees →
+      Augmentable t spares ts ss mates taken dead-trees live
   building-ready mates₀ taken₀ b l =
       record {
         rank = omega (arith, b .few-trees);

@@ -6,19 +6,16 @@ use mathlib.Core.Bool.{Bool, false, _&&_}
 use mathlib.Core.List.{List}
 use lib.Dec.{ltb}
 use lib.ListN.{length, getD}
+use Rattle.graph.specs.Rank.{costAt}
 use Rattle.bits.specs.Bit.{bit}
 use Rattle.sets.specs.Sets.{member}
 use Rattle.optimum.specs.Search.{Problem, search, Progress, augment, matching}
 use Rattle.search.specs.State as S
-use Rattle.search.specs.State.{matesOf, stateOf, Below, Taken, Rows}
+use Rattle.search.specs.State.{arrayMates, stateOf, Below, Taken, Rows}
 
 -- The mates, the tree ranks that searches which failed have seen, and the matched spare ranks that they have not.
 abbrev pub progressOf : List ℕ → ℕ → List ℕ → Progress
-progressOf mates trees live = record { mates = matesOf mates; treeDead = bit trees; spareLive = member live }
-
--- The cost of a rank: ranks lead to edges, and edges to costs.
-abbrev pub costAt : List ℕ → List ℕ → ℕ → ℕ
-costAt cost ranks k = getD cost (getD ranks k 0) 0
+progressOf mates trees live = record { mates = arrayMates mates; treeDead = bit trees; spareLive = member live }
 
 -- The first n ranks are numbers of edges.
 abbrev pub Edges : ℕ → List ℕ → Type 0
@@ -55,13 +52,13 @@ pub record Sought (t goal : ℕ) (rows mates : List ℕ) (trees : ℕ) (live mat
   pub below : (n : ℕ) → t < n → Below n mates → Below n mates′
   pub unseen : (n : ℕ) → t < n → Below n mates → Unseen n trees → Unseen n trees′
   pub taken-are : Taken mates′ taken′
-  pub same : met ≡ false → matesOf mates′ ≡ matesOf mates
+  pub same : met ≡ false → arrayMates mates′ ≡ arrayMates mates
   pub equal :
       (p : Problem) → Rows p rows → Below (p .trees) mates → t < p .trees
       → stateOf mates′ trees′ live′ met ≡ search p goal t (stateOf mates trees live false)
 
 -- What matching one more tree rank needs.
-pub record Ready (t spares : ℕ) (ts ss mates taken : List ℕ) (trees : ℕ) (live : List ℕ) : Type 0 where
+pub record Augmentable (t spares : ℕ) (ts ss mates taken : List ℕ) (trees : ℕ) (live : List ℕ) : Type 0 where
   pub rank : t < 64
   pub fresh : bit trees t ≡ false
   pub few : spares ≤ 256
@@ -102,4 +99,4 @@ pub record Built (trees spares : ℕ) (cost ts ss rows mates taken : List ℕ) :
   pub taken-length : length taken ≡ 4
   pub below : Below trees mates
   pub taken-are : Taken mates taken
-  pub equal : (p : Problem) → p .trees ≡ trees → Holds p spares cost ts ss rows → matesOf mates ≡ matching p
+  pub equal : (p : Problem) → p .trees ≡ trees → Holds p spares cost ts ss rows → arrayMates mates ≡ matching p

@@ -15,7 +15,7 @@ use Rattle.loops.specs.PutLaws.{put-same, put-other}
 use Rattle.sets.specs.Sets.{member}
 use Rattle.optimum.specs.Search.{Problem, Mates, Search, search}
 use Rattle.optimum.specs.SearchLaws.{AugmentingPath, stop, via, Explored, Always, kept-always, search-fails, search-turns}
-use Rattle.search.specs.State.{matesOf, stateOf, Below, Taken, TreeTried}
+use Rattle.search.specs.State.{arrayMates, stateOf, Below, Taken, TreeTried}
 use Rattle.search.specs.Growth.{Reached}
 use Rattle.search.specs.TreeSteps.{rowsProblem, rows-problem, tree-reached}
 use Rattle.search.specs.ExploreSteps.{taken-same}
@@ -41,7 +41,11 @@ new-matched m goal t x =
       | no q ↦ rw (put-other m goal (suc t) x q, ne-eqb goal x (λ e. q (sym e))) (sym (or-false (not (eqb (m x) 0))))
     ]
 
-path-matched : {p : Problem} {goal : ℕ} {base m m′ : Mates} {t : ℕ} → AugmentingPath p goal base m t m′ → (x : ℕ) → isMatched m′ x ≡ (isMatched m x || eqb goal x)
+path-matched :
+    {p : Problem} {goal : ℕ} {base m m′ : Mates} {t : ℕ} →
+    AugmentingPath p goal base m t m′ →
+    (x : ℕ) →
+    isMatched m′ x ≡ (isMatched m x || eqb goal x)
 path-matched {goal = goal} (stop {m = m} {t = t} b c e) x = new-matched m goal t x
 path-matched {goal = goal} (via {m = m} {t = t} {s = s} {t′ = u} b c e f π) x =
     path-matched π x ∙ ap (λ z. z || eqb goal x) (kept-matched m s t u x f)
@@ -72,7 +76,7 @@ module _
     met-alone : search p goal t start .met ≡ met
     met-alone = ap (λ (st : Search). st .met) (sym alone)
 
-    mate-below : (s u : ℕ) → s < 256 → matesOf mates s ≡ suc u → u < 64
+    mate-below : (s u : ℕ) → s < 256 → arrayMates mates s ≡ suc u → u < 64
     mate-below s u k e = omega (arith, able .ready .below s)
 
     reached : (n : ℕ) → t < n → Below n mates → Reached n start (stateOf mates′ trees′ live′ met)
@@ -80,7 +84,7 @@ module _
         tree-reached t goal rows mates trees live mates′ trees′ live′ met (able .ready .rank) (able .ready .below) tried
 
     module _ (b : Bool) (is : met ≡ b) where
-      sought : (taken′ : List ℕ) → length taken′ ≡ 4 → Taken mates′ taken′ → (b ≡ false → matesOf mates′ ≡ matesOf mates)
+      sought : (taken′ : List ℕ) → length taken′ ≡ 4 → Taken mates′ taken′ → (b ≡ false → arrayMates mates′ ≡ arrayMates mates)
           → Sought t goal rows mates trees live mates′ taken′ trees′ live′ b
       sought taken′ e are same =
           record {
@@ -99,7 +103,7 @@ module _
     unfolding isMatched
     sought-met h taken′ more e = sought true h taken′ e now-taken (λ q. clash refl q)
       where
-        path : AugmentingPath p goal (matesOf mates) (matesOf mates) t (search p goal t start .mates)
+        path : AugmentingPath p goal (arrayMates mates) (arrayMates mates) t (search p goal t start .mates)
         path =
             search-turns p goal start Always Always (kept-always p start) mate-below t tt refl (met-alone ∙ h)
 
@@ -111,9 +115,9 @@ module _
     pub sought-unmet : met ≡ false → Sought t goal rows mates trees live mates′ taken trees′ live′ false
     sought-unmet h = sought false h taken (able .taken-length) (taken-same mates mates′ same taken (able .taken-are)) (λ _. same)
       where
-        failed : Explored p goal (matesOf mates) Always Always start t (search p goal t start)
+        failed : Explored p goal (arrayMates mates) Always Always start t (search p goal t start)
         failed =
             search-fails p goal start Always Always (kept-always p start) mate-below t tt refl (met-alone ∙ h)
 
-        same : matesOf mates′ ≡ matesOf mates
+        same : arrayMates mates′ ≡ arrayMates mates
         same = ap (λ (st : Search). st .mates) alone ∙ failed .grown .mates

@@ -5,7 +5,7 @@ use ids::TreeRank;
 ghost use mathlib.Core.Path.{_≡_};
 ghost use Prim.Native.Nat.{_<_, _≤_};
 ghost use lib.ListN.{getD};
-ghost use Rattle.matching.specs.Progress.{Seekable, Sought, Ready, Augmented, Buildable, Built, Edges, gain};
+ghost use Rattle.matching.specs.Progress.{Seekable, Sought, Augmentable, Augmented, Buildable, Built, Edges, gain};
 
 // Is there a goal, and does it cost less than tree rank `t`?
 fn gains(
@@ -40,7 +40,8 @@ fn seek(
     live: &mut [u64; 4],
 ) -> bool
     requires { ⌜ Seekable (t .0) (goal .0) (now mates) (now taken) (now «tree_seen») (now live) ⌝ }
-    ensures { λ r. ⌜ Sought (t .0) (goal .0) (now (rows .entry)) (now (mates .entry)) (now («tree_seen» .entry)) (now (live .entry)) (now (mates .exit)) (now (taken .exit)) (now («tree_seen» .exit)) (now (live .exit)) r ⌝ }
+    ensures { λ r. ⌜ Sought (t .0) (goal .0) (now (rows .entry)) (now (mates .entry)) (now («tree_seen» .entry)) (now (live .entry)) (now (mates .exit))
+        (now (taken .exit)) (now («tree_seen» .exit)) (now (live .exit)) r ⌝ }
 {
     if search::try_tree(t, goal, rows, mates, tree_seen, live) {
         sets::insert(taken, goal.0);
@@ -63,8 +64,9 @@ fn augment(
     tree_dead: &mut u64,
     live: &mut [u64; 4],
 )
-    requires { ⌜ Ready (t .0) spares (now ts) (now ss) (now mates) (now taken) (now «tree_dead») (now live) ⌝ }
-    ensures { λ r. ⌜ Augmented (t .0) spares (now (cost .entry)) (now (ts .entry)) (now (ss .entry)) (now (rows .entry)) (now (mates .entry)) (now («tree_dead» .entry)) (now (live .entry)) (now (mates .exit)) (now (taken .exit)) (now («tree_dead» .exit)) (now (live .exit)) ⌝ }
+    requires { ⌜ Augmentable (t .0) spares (now ts) (now ss) (now mates) (now taken) (now «tree_dead») (now live) ⌝ }
+    ensures { λ r. ⌜ Augmented (t .0) spares (now (cost .entry)) (now (ts .entry)) (now (ss .entry)) (now (rows .entry)) (now (mates .entry))
+        (now («tree_dead» .entry)) (now (live .entry)) (now (mates .exit)) (now (taken .exit)) (now («tree_dead» .exit)) (now (live .exit)) ⌝ }
 {
     let cheapest = sets::lowest_free(taken);
     if !gains(t, SpareRank(cheapest), spares, cost, ts, ss) {
@@ -85,7 +87,7 @@ fn augment(
         return;
     }
     let new_trees = bits::less(tree_seen, *tree_dead);
-    let goal = sets::lowest_covering(rows, new_trees, taken);
+    let goal = set_rows::lowest_covering(rows, new_trees, taken);
     if gains(t, SpareRank(goal), spares, cost, ts, ss) {
         tree_seen = *tree_dead;
         left = *live;

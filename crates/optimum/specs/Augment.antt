@@ -172,7 +172,9 @@ module _
             }
 
         -- The search has failed: what it has visited is given up.
-        fail-keeps : v ≡ p .treeCost t → Invariant p (suc t) (record { mates = pr .mates; treeDead = all .treeSeen; spareLive = λ s. not (all .spareSeen s) }) new
+        fail-keeps :
+            v ≡ p .treeCost t →
+            Invariant p (suc t) (record { mates = pr .mates; treeDead = all .treeSeen; spareLive = λ s. not (all .spareSeen s) }) new
         fail-keeps e =
             record {
               pairs = raised-pairs;
@@ -187,7 +189,14 @@ module _
             not-false false h = clash refl h
 
         -- The goal has been met: tree rank t is matched.
-        meet-keeps : (goal : ℕ) (st : Search) → goal < p .spares → v ≡ p .spareCost goal → p .spareCost goal < p .treeCost t → pr .mates goal ≡ 0 → AugmentingPath p goal (pr .mates) (pr .mates) t (st .mates) → Invariant p (suc t) (turned pr goal st) new
+        meet-keeps :
+            (goal : ℕ) (st : Search) →
+            goal < p .spares →
+            v ≡ p .spareCost goal →
+            p .spareCost goal < p .treeCost t →
+            pr .mates goal ≡ 0 →
+            AugmentingPath p goal (pr .mates) (pr .mates) t (st .mates) →
+            Invariant p (suc t) (turned pr goal st) new
         meet-keeps goal st k e c f π =
             record {
               pairs = flipped .0;
@@ -247,15 +256,21 @@ module _
     -- It costs too much, or there is none.
     too-dear : (cheapest < p .spares → p .treeCost t ≤ p .spareCost cheapest) → Keeps pr
     too-dear h =
-        let cheap : (x s : ℕ) → s < p .spares → newTrees pr all x ≡ true → p .covers x s ≡ true → pr .mates s ≡ 0 → p .treeCost t ≤ p .spareCost s = λ x s k q c e. omega (arith, cheapest-least s k e .1, h (cheapest-least s k e .0)) in (
+        let cheap : (x s : ℕ) → s < p .spares → newTrees pr all x ≡ true → p .covers x s ≡ true → pr .mates s ≡ 0 → p .treeCost t ≤ p .spareCost s = λ x s k q
+        c e. omega (arith, cheapest-least s k e .1, h (cheapest-least s k e .0)) in (
           new (p .spares) all explored (p .treeCost t) (omega arith) cheap,
           stay-keeps (p .spares) all explored (p .treeCost t) (omega arith) cheap refl,
         )
 
     -- The search for it meets it.
-    met-cheapest : cheapest < p .spares → p .spareCost cheapest < p .treeCost t → search p cheapest t (begun pr) .met ≡ true → Keeps (turned pr cheapest (search p cheapest t (begun pr)))
+    met-cheapest :
+        cheapest < p .spares →
+        p .spareCost cheapest < p .treeCost t →
+        search p cheapest t (begun pr) .met ≡ true →
+        Keeps (turned pr cheapest (search p cheapest t (begun pr)))
     met-cheapest a b m =
-        let cheap : (x s : ℕ) → s < p .spares → newTrees pr all x ≡ true → p .covers x s ≡ true → pr .mates s ≡ 0 → p .spareCost cheapest ≤ p .spareCost s = λ x s k q c e. cheapest-least s k e .1 in (
+        let cheap : (x s : ℕ) → s < p .spares → newTrees pr all x ≡ true → p .covers x s ≡ true → pr .mates s ≡ 0 → p .spareCost cheapest ≤ p .spareCost s = λ
+        x s k q c e. cheapest-least s k e .1 in (
           new (p .spares) all explored (p .spareCost cheapest) (omega arith) cheap,
           meet-keeps (p .spares) all explored (p .spareCost cheapest) (omega arith) cheap cheapest (search p cheapest t (begun pr)) a refl b (cheapest-hit a)
               (search-turns p cheapest (begun pr) Upto Always kept mate-below t (omega arith) refl m),
@@ -283,7 +298,13 @@ module _
       new-first s = first-is (p .trees) (λ x. newTrees pr reached x && p .covers x s)
 
       -- No other non-tree rank that could be the goal is cheaper.
-      goal-least : (x s : ℕ) → s < p .spares → newTrees pr reached x ≡ true → p .covers x s ≡ true → pr .mates s ≡ 0 → (goal < p .spares) × (p .spareCost goal ≤ p .spareCost s)
+      goal-least :
+          (x s : ℕ) →
+          s < p .spares →
+          newTrees pr reached x ≡ true →
+          p .covers x s ≡ true →
+          pr .mates s ≡ 0 →
+          (goal < p .spares) × (p .spareCost goal ≤ p .spareCost s)
       goal-least x s k q c e = elim (decLt s goal) [
         | yes j ↦ clash (and-both _ _ covers (eq-eqb (pr .mates s) 0 e)) (goal-first .before s j)
         | no j ↦ (omega arith, ranked .rise goal s (omega arith) k)
@@ -319,14 +340,19 @@ module _
       -- The goal costs less than tree rank t, or it does not, or there is none.
       met-goal : goal < p .spares → p .spareCost goal < p .treeCost t → Keeps (turned pr goal (search p goal t (begun pr)))
       met-goal a b =
-          let cheap : (x s : ℕ) → s < p .spares → newTrees pr reached x ≡ true → p .covers x s ≡ true → pr .mates s ≡ 0 → p .spareCost goal ≤ p .spareCost s = λ x s k q c e. goal-least x s k q c e .1 in (
+          let cheap : (x s : ℕ) → s < p .spares → newTrees pr reached x ≡ true → p .covers x s ≡ true → pr .mates s ≡ 0 → p .spareCost goal ≤ p .spareCost s =
+          λ x s k q c e. goal-least x s k q c e .1 in (
             new cheapest reached reached-all (p .spareCost goal) (omega arith) cheap,
-            meet-keeps cheapest reached reached-all (p .spareCost goal) (omega arith) cheap goal (search p goal t (begun pr)) a refl b (goal-hit a .0) (goal-path a),
+            meet-keeps cheapest reached reached-all (p .spareCost goal) (omega arith) cheap goal (search p goal t (begun pr)) a refl b (goal-hit a .0)
+                (goal-path a),
           )
 
-      failed : (goal < p .spares → p .treeCost t ≤ p .spareCost goal) → Keeps (record { mates = pr .mates; treeDead = reached .treeSeen; spareLive = λ s. not (reached .spareSeen s) })
+      failed :
+          (goal < p .spares → p .treeCost t ≤ p .spareCost goal) →
+          Keeps (record { mates = pr .mates; treeDead = reached .treeSeen; spareLive = λ s. not (reached .spareSeen s) })
       failed h =
-          let cheap : (x s : ℕ) → s < p .spares → newTrees pr reached x ≡ true → p .covers x s ≡ true → pr .mates s ≡ 0 → p .treeCost t ≤ p .spareCost s = λ x s k q c e. omega (arith, goal-least x s k q c e .1, h (goal-least x s k q c e .0)) in (
+          let cheap : (x s : ℕ) → s < p .spares → newTrees pr reached x ≡ true → p .covers x s ≡ true → pr .mates s ≡ 0 → p .treeCost t ≤ p .spareCost s = λ x
+          s k q c e. omega (arith, goal-least x s k q c e .1, h (goal-least x s k q c e .0)) in (
             new cheapest reached reached-all (p .treeCost t) (omega arith) cheap,
             fail-keeps cheapest reached reached-all (p .treeCost t) (omega arith) cheap refl,
           )

@@ -6,7 +6,7 @@ use mathlib.Core.Logic.{inl, inr}
 use native.Mathlib.Omega.{arith}
 use lib.IntN.{pos, natAbs, _-ℤ_}
 use lib.Signed.{_≤ℤ_, ≤ℤ-refl}
-use Rattle.loops.specs.Loop.{sum}
+use Rattle.loops.specs.Below.{sum}
 use Rattle.loops.specs.SumLaws.{sum-same, sum-le, sum-zero, sum-plus, sum-squeeze}
 use Rattle.optimum.specs.Search.{Problem, Mates}
 use Rattle.optimum.specs.Slackness.{Valid, RankCosts, Feasible, Unmatched, Slack, rankDeviation, pairWeight, rankWeight}

@@ -42,7 +42,14 @@ mate-view mates s t s′ x h =
 
 module _ (p : Problem) (n : ℕ) (mates : Mates) (d : ℕ → ℕ) (g : Pairs p n mates d) (s t : ℕ) (l : s < p .spares) where
   -- What holds of the new pair and of the old ones.
-  each-pair : (C : ℕ → ℕ → Type 0) → C s t → ((s′ x : ℕ) → s′ < p .spares → mates s′ ≡ suc x → C s′ x) → (s′ x : ℕ) → s′ < p .spares → put mates s (suc t) s′ ≡ suc x → C s′ x
+  each-pair :
+      (C : ℕ → ℕ → Type 0) →
+      C s t →
+      ((s′ x : ℕ) → s′ < p .spares → mates s′ ≡ suc x → C s′ x) →
+      (s′ x : ℕ) →
+      s′ < p .spares →
+      put mates s (suc t) s′ ≡ suc x →
+      C s′ x
   each-pair C new old s′ x l′ e =
       elim (mate-view mates s t s′ x e) [
         | inl q ↦ rw (← q .0, ← q .1) new
@@ -50,7 +57,13 @@ module _ (p : Problem) (n : ℕ) (mates : Mates) (d : ℕ → ℕ) (g : Pairs p 
       ]
 
   -- One more pair, or a mate taken from another tree rank.
-  pairs-put : t < n → p .covers t s ≡ true → Unmatched p mates t → ((s′ : ℕ) → s′ < p .spares → p .covers t s′ ≡ true → d s ≤ d s′) → d s < p .treeCost t → Pairs p n (put mates s (suc t)) d
+  pairs-put :
+      t < n →
+      p .covers t s ≡ true →
+      Unmatched p mates t →
+      ((s′ : ℕ) → s′ < p .spares → p .covers t s′ ≡ true → d s ≤ d s′) →
+      d s < p .treeCost t →
+      Pairs p n (put mates s (suc t)) d
   pairs-put b c u f h =
       record {
         below = each-pair (λ a x. x < n) b (g .below);
@@ -107,7 +120,14 @@ module _ (p : Problem) (n : ℕ) (mates : Mates) (d : ℕ → ℕ) (g : Pairs p 
   done-put x h (inr (inr f)) = inr f
 
 -- The potentials do not fall along an alternating path.
-path-rises : (p : Problem) (goal : ℕ) (base : Mates) (d : ℕ → ℕ) → ((s s′ t : ℕ) → s < p .spares → s′ < p .spares → base s ≡ suc t → p .covers t s′ ≡ true → d s ≤ d s′) → {m m′ : Mates} {t : ℕ} → AugmentingPath p goal base m t m′ → (v : ℕ) → ((s : ℕ) → s < p .spares → p .covers t s ≡ true → v ≤ d s) → v ≤ d goal
+path-rises :
+    (p : Problem) (goal : ℕ) (base : Mates) (d : ℕ → ℕ) →
+    ((s s′ t : ℕ) → s < p .spares → s′ < p .spares → base s ≡ suc t → p .covers t s′ ≡ true → d s ≤ d s′) →
+    {m m′ : Mates} {t : ℕ} →
+    AugmentingPath p goal base m t m′ →
+    (v : ℕ) →
+    ((s : ℕ) → s < p .spares → p .covers t s ≡ true → v ≤ d s) →
+    v ≤ d goal
 path-rises p goal base d f (stop l c e) v h = h goal l c
 path-rises p goal base d f (via {s = s} {t′ = t′} l c b e π) v h =
     omega (arith, h s l c, path-rises p goal base d f π (d s) (λ s′ l′ c′. f s s′ t′ l l′ b c′))
@@ -123,7 +143,15 @@ module _
     (free : base goal ≡ 0)
     (dear : (x : ℕ) → x < n → d goal < p .treeCost x)
   where
-    pub path-turns : {m m′ : Mates} {t : ℕ} → AugmentingPath p goal base m t m′ → Pairs p n m d → t < n → Unmatched p m t → ((s : ℕ) → s < p .spares → p .covers t s ≡ true → d goal ≤ d s) → ((x : ℕ) → x < n → (x ≡ t) ⊎ Done p m d x) → Pairs p n m′ d × ((x : ℕ) → x < n → Done p m′ d x)
+    pub path-turns :
+        {m m′ : Mates} {t : ℕ} →
+        AugmentingPath p goal base m t m′ →
+        Pairs p n m d →
+        t < n →
+        Unmatched p m t →
+        ((s : ℕ) → s < p .spares → p .covers t s ≡ true → d goal ≤ d s) →
+        ((x : ℕ) → x < n → (x ≡ t) ⊎ Done p m d x) →
+        Pairs p n m′ d × ((x : ℕ) → x < n → Done p m′ d x)
     path-turns (stop {m = m} {t = t} l c e) g b u h f = (
       pairs-put p n m d g goal t l b c u h (dear t b),
       λ x k. done-put p n m d g goal t l x (λ q. omega (arith, e)) (f x k),

@@ -30,7 +30,13 @@ pub record Top (p : Problem) (n k v : ℕ) : Type 0 where
 
 -- Labels given so far.
 pub record Closed (p : Problem) (mates : Mates) (OnTree OnSpare : ℕ → ℕ → Type 0) (n k : ℕ) (l : Labels) : Type 0 where
-  pub covered : (t s : ℕ) → s < p .spares → l .treeDone t ≡ true → p .covers t s ≡ true → mates s ≢ 0 → (l .spareDone s ≡ true) × (l .treeLabel t ≤ l .spareLabel s)
+  pub covered :
+      (t s : ℕ) →
+      s < p .spares →
+      l .treeDone t ≡ true →
+      p .covers t s ≡ true →
+      mates s ≢ 0 →
+      (l .spareDone s ≡ true) × (l .treeLabel t ≤ l .spareLabel s)
   pub followed : (s t : ℕ) → s < p .spares → l .spareDone s ≡ true → mates s ≡ suc t → (l .treeDone t ≡ true) × (l .spareLabel s ≤ l .treeLabel t)
   pub tree-top : (t : ℕ) → l .treeDone t ≡ true → Top p n k (l .treeLabel t)
   pub spare-top : (s : ℕ) → l .spareDone s ≡ true → mates s ≢ 0 → Top p n k (l .spareLabel s)
@@ -49,10 +55,17 @@ top-later p n k n′ k′ v a b h =
     record { trees = λ t q l. h .trees t (omega arith) l; spares = λ s q. h .spares s (omega arith) }
 
 -- The label after a search that gives v, of a rank that it has visited or that had one.
-relabel : (v : ℕ) (seen done : ℕ → Bool) (label : ℕ → ℕ) (i : ℕ) (C : Type 0) → seen i ≡ true → (done i ≡ true) ⊎ C → ((done i ≡ true) × (cond (seen i && not (done i)) v (label i) ≡ label i)) ⊎ (C × (cond (seen i && not (done i)) v (label i) ≡ v))
+relabel :
+    (v : ℕ) (seen done : ℕ → Bool) (label : ℕ → ℕ) (i : ℕ) (C : Type 0) →
+    seen i ≡ true →
+    (done i ≡ true) ⊎ C →
+    ((done i ≡ true) × (cond (seen i && not (done i)) v (label i) ≡ label i)) ⊎ (C × (cond (seen i && not (done i)) v (label i) ≡ v))
 relabel v seen done label i C h c = at-done (truth (done i)) c
   where
-    at-done : (done i ≡ true) ⊎ (done i ≡ false) → (done i ≡ true) ⊎ C → ((done i ≡ true) × (cond (seen i && not (done i)) v (label i) ≡ label i)) ⊎ (C × (cond (seen i && not (done i)) v (label i) ≡ v))
+    at-done :
+        (done i ≡ true) ⊎ (done i ≡ false) →
+        (done i ≡ true) ⊎ C →
+        ((done i ≡ true) × (cond (seen i && not (done i)) v (label i) ≡ label i)) ⊎ (C × (cond (seen i && not (done i)) v (label i) ≡ v))
     at-done (inl q) c = inl (q, rw (h, q))
     at-done (inr q) (inl r) = clash r q
     at-done (inr q) (inr r) = inr (r, rw (h, q))
@@ -89,10 +102,16 @@ module _
     abbrev next : Labels
     next = labelled v st l
 
-    tree-view : (t : ℕ) → st .treeSeen t ≡ true → ((l .treeDone t ≡ true) × (next .treeLabel t ≡ l .treeLabel t)) ⊎ (TreeClosed p (p .spares) (λ t. OnTree t v) (st .spareSeen) t × (next .treeLabel t ≡ v))
+    tree-view :
+        (t : ℕ) →
+        st .treeSeen t ≡ true →
+        ((l .treeDone t ≡ true) × (next .treeLabel t ≡ l .treeLabel t)) ⊎ (TreeClosed p (p .spares) (λ t. OnTree t v) (st .spareSeen) t × (next .treeLabel t ≡ v))
     tree-view t h = relabel v (st .treeSeen) (l .treeDone) (l .treeLabel) t (TreeClosed p (p .spares) (λ t. OnTree t v) (st .spareSeen) t) h (g .new-tree t h)
 
-    spare-view : (s : ℕ) → st .spareSeen s ≡ true → ((l .spareDone s ≡ true) × (next .spareLabel s ≡ l .spareLabel s)) ⊎ (SpareClosed p mates (λ s. OnSpare s v) (st .treeSeen) s × (next .spareLabel s ≡ v))
+    spare-view :
+        (s : ℕ) →
+        st .spareSeen s ≡ true →
+        ((l .spareDone s ≡ true) × (next .spareLabel s ≡ l .spareLabel s)) ⊎ (SpareClosed p mates (λ s. OnSpare s v) (st .treeSeen) s × (next .spareLabel s ≡ v))
     spare-view s h = relabel v (st .spareSeen) (l .spareDone) (l .spareLabel) s (SpareClosed p mates (λ s. OnSpare s v) (st .treeSeen) s) h (g .new-spare s h)
 
     tree-floor : (t : ℕ) → st .treeSeen t ≡ true → v ≤ next .treeLabel t
@@ -153,7 +172,12 @@ module _
           spare-floor = spare-floor;
         }
 
-closed-later : (p : Problem) (mates : Mates) (OnTree OnSpare : ℕ → ℕ → Type 0) (n k n′ k′ : ℕ) (l : Labels) → n ≤ n′ → k′ ≤ k → Closed p mates OnTree OnSpare n k l → Closed p mates OnTree OnSpare n′ k′ l
+closed-later :
+    (p : Problem) (mates : Mates) (OnTree OnSpare : ℕ → ℕ → Type 0) (n k n′ k′ : ℕ) (l : Labels) →
+    n ≤ n′ →
+    k′ ≤ k →
+    Closed p mates OnTree OnSpare n k l →
+    Closed p mates OnTree OnSpare n′ k′ l
 closed-later p mates OnTree OnSpare n k n′ k′ l a b c =
     record {
       covered = c .covered;
@@ -212,8 +236,11 @@ module _
           put-same (l .spareDone) s true,
         ))
         (λ h.
-        let x : Explores v (seeSpare s (fresh mates l)) t (search p (p .spares) t (seeSpare s (fresh mates l))) = search-explores p (p .spares) (seeSpare s (fresh mates l)) (λ t. OnTree t v) (λ s. OnSpare s v) (kept v (seeSpare s (fresh mates l)) refl) below t (says .to-mate s t v b o e) refl refl in (
-          grown-spare p (p .spares) mates (λ t. OnTree t v) (λ s. OnSpare s v) s (fresh mates l) (search p (p .spares) t (seeSpare s (fresh mates l))) (x .grown) (spare-closed (search p (p .spares) t (seeSpare s (fresh mates l)) .treeSeen) (x .seen)),
+        let x : Explores v (seeSpare s (fresh mates l)) t (search p (p .spares) t (seeSpare s (fresh mates l))) = search-explores p (p .spares)
+        (seeSpare s (fresh mates l)) (λ t. OnTree t v) (λ s. OnSpare s v) (kept v (seeSpare s (fresh mates l)) refl) below t
+        (says .to-mate s t v b o e) refl refl in (
+          grown-spare p (p .spares) mates (λ t. OnTree t v) (λ s. OnSpare s v) s (fresh mates l) (search p (p .spares) t (seeSpare s (fresh mates l)))
+              (x .grown) (spare-closed (search p (p .spares) t (seeSpare s (fresh mates l)) .treeSeen) (x .seen)),
           x .grown .spares s (put-same (l .spareDone) s true),
         ))
       where
@@ -235,14 +262,22 @@ module _
         let v : ℕ = p .treeCost n in
         let st : Search = search p (p .spares) n (fresh mates l) in
         let x : Explores v (fresh mates l) n st = tree-search n v l (says .from-tree n b (matched-false p mates n (or-neither _ _ q .0))) in
-        let r : Relabelled p mates OnTree OnSpare (suc n) k v l (labelled v st l) = relabelled p mates OnTree OnSpare n k (suc n) k (omega arith) (omega arith) l (i .closed) v low-tree low-spare top st (x .grown) in
+        let r : Relabelled p mates OnTree OnSpare (suc n) k v l (labelled v st l) = relabelled p mates OnTree OnSpare n k (suc n) k (omega arith)
+        (omega arith) l (i .closed) v low-tree low-spare top st (x .grown) in
         record {
           closed = r .closed;
           tree-own = own (labelled v st l) (r .tree-stays) (λ _. (x .seen, r .tree-floor n (x .seen)));
           spare-own = λ s a c. r .spare-stays s (p .spareCost s) (i .spare-own s a c);
         })
       where
-        own : (l′ : Labels) → ((t a : ℕ) → (l .treeDone t ≡ true) × (a ≤ l .treeLabel t) → (l′ .treeDone t ≡ true) × (a ≤ l′ .treeLabel t)) → (Unmatched p mates n → (l′ .treeDone n ≡ true) × (p .treeCost n ≤ l′ .treeLabel n)) → (t : ℕ) → t < suc n → Unmatched p mates t → (l′ .treeDone t ≡ true) × (p .treeCost t ≤ l′ .treeLabel t)
+        own :
+            (l′ : Labels) →
+            ((t a : ℕ) → (l .treeDone t ≡ true) × (a ≤ l .treeLabel t) → (l′ .treeDone t ≡ true) × (a ≤ l′ .treeLabel t)) →
+            (Unmatched p mates n → (l′ .treeDone n ≡ true) × (p .treeCost n ≤ l′ .treeLabel n)) →
+            (t : ℕ) →
+            t < suc n →
+            Unmatched p mates t →
+            (l′ .treeDone t ≡ true) × (p .treeCost t ≤ l′ .treeLabel t)
         own l′ stays at-n t h u =
             elim (ℕ-discrete n t) [
               | yes q ↦ rw (← q) (at-n (rw q u))
@@ -283,7 +318,8 @@ module _
         (λ h.
         let st : Search = mateSearch p s (mates s) (seeSpare s (fresh mates l)) in
         let x : Grows v (fresh mates l) st × (st .spareSeen s ≡ true) = spare-search s v l b (says .from-spare s b) (mates s) refl in
-        let r : Relabelled p mates OnTree OnSpare n s v l (labelled v st l) = relabelled p mates OnTree OnSpare n (suc s) n s (omega arith) (omega arith) l (i .closed) v low-tree low-spare top st (x .0) in
+        let r : Relabelled p mates OnTree OnSpare n s v l (labelled v st l) = relabelled p mates OnTree OnSpare n (suc s) n s (omega arith) (omega arith) l
+        (i .closed) v low-tree low-spare top st (x .0) in
         record {
           closed = r .closed;
           tree-own = λ t a u. r .tree-stays t (p .treeCost t) (i .tree-own t a u);
@@ -293,7 +329,14 @@ module _
         v : ℕ
         v = p .spareCost s
 
-        own : (l′ : Labels) → ((x a : ℕ) → (l .spareDone x ≡ true) × (a ≤ l .spareLabel x) → (l′ .spareDone x ≡ true) × (a ≤ l′ .spareLabel x)) → (l′ .spareDone s ≡ true) × (v ≤ l′ .spareLabel s) → (x : ℕ) → s ≤ x → x < p .spares → (l′ .spareDone x ≡ true) × (p .spareCost x ≤ l′ .spareLabel x)
+        own :
+            (l′ : Labels) →
+            ((x a : ℕ) → (l .spareDone x ≡ true) × (a ≤ l .spareLabel x) → (l′ .spareDone x ≡ true) × (a ≤ l′ .spareLabel x)) →
+            (l′ .spareDone s ≡ true) × (v ≤ l′ .spareLabel s) →
+            (x : ℕ) →
+            s ≤ x →
+            x < p .spares →
+            (l′ .spareDone x ≡ true) × (p .spareCost x ≤ l′ .spareLabel x)
         own l′ stays at-s x h e =
             elim (ℕ-discrete s x) [
               | yes q ↦ rw (← q) at-s
@@ -329,7 +372,13 @@ module _
 
     module _ (ranked : Ranked p) where
       -- Of tree rank n and non-tree rank s the dearer one has its turn.
-      tree-first : (n s : ℕ) (l : Labels) → s < p .spares → Turned n (suc s) l → ltb n (p .trees) ≡ true → leb (p .spareCost s) (p .treeCost n) ≡ true → Turned (suc n) (suc s) (labelTree p mates n l)
+      tree-first :
+          (n s : ℕ) (l : Labels) →
+          s < p .spares →
+          Turned n (suc s) l →
+          ltb n (p .trees) ≡ true →
+          leb (p .spareCost s) (p .treeCost n) ≡ true →
+          Turned (suc n) (suc s) (labelTree p mates n l)
       tree-first n s l b i h k =
           tree-turn n (suc s) l (ltb-true n (p .trees) h)
           record {
@@ -338,7 +387,12 @@ module _
           }
           i
 
-      spare-first : (n s : ℕ) (l : Labels) → s < p .spares → Turned n (suc s) l → (ltb n (p .trees) ≡ true → leb (p .spareCost s) (p .treeCost n) ≡ false) → Turned n s (labelSpare p mates s l)
+      spare-first :
+          (n s : ℕ) (l : Labels) →
+          s < p .spares →
+          Turned n (suc s) l →
+          (ltb n (p .trees) ≡ true → leb (p .spareCost s) (p .treeCost n) ≡ false) →
+          Turned n s (labelSpare p mates s l)
       spare-first n s l b i h =
           spare-turn n s l b
           record {
@@ -347,7 +401,13 @@ module _
           }
           i
 
-      from-ends : (turns n k : ℕ) (l : Labels) → n ≤ p .trees → k ≤ p .spares → n + turns ≡ p .trees + k → Turned n k l → Turned (p .trees) 0 (labelFrom p mates turns n k l)
+      from-ends :
+          (turns n k : ℕ) (l : Labels) →
+          n ≤ p .trees →
+          k ≤ p .spares →
+          n + turns ≡ p .trees + k →
+          Turned n k l →
+          Turned (p .trees) 0 (labelFrom p mates turns n k l)
       unfolding labelFrom
       from-ends zero n k l a b e i =
           let q : n ≡ p .trees = omega arith in

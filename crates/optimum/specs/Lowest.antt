@@ -3,7 +3,8 @@
 use Prim.Native.Nat.{ℕ, zero, suc, _+_}
 use mathlib.Core.Bool.{Bool, false, cond, not, _&&_, _||_}
 use lib.Dec.{leb, ltb, eqb}
-use Rattle.loops.specs.Loop.{choose, first}
+use Rattle.loops.specs.Below.{choose}
+use Rattle.loops.specs.Loop.{first}
 use Rattle.optimum.specs.Search.{Problem, Mates, Search, seeSpare, search}
 
 -- The ranks that have a label, and the labels: at the start the unmatched non-tree ranks have one, their own cost, and keep it.
@@ -14,7 +15,8 @@ pub record Labels : Type 0 where
   pub spareLabel : ℕ → ℕ
 
 abbrev pub unlabelled : Problem → Mates → Labels
-unlabelled p mates = record { treeDone = λ _. false; spareDone = λ s. eqb (mates s) 0; treeLabel = λ _. 0; spareLabel = λ s. cond (ltb s (p .spares)) (p .spareCost s) 0 }
+unlabelled p mates =
+    record { treeDone = λ _. false; spareDone = λ s. eqb (mates s) 0; treeLabel = λ _. 0; spareLabel = λ s. cond (ltb s (p .spares)) (p .spareCost s) 0 }
 
 -- A search that visits only what has no label yet.
 abbrev pub fresh : Mates → Labels → Search

@@ -83,7 +83,11 @@ module _ (p : Problem) (ranked : Ranked p) (mates : Mates) (valid : Valid p mate
           tight =
               λ s t l q.
               ap pos
-              (omega (arith, forced .closed .followed s t l (at-spare s l) q .1, forced .closed .covered t s l (at-tree t (valid .below s t l q)) (valid .covers s t l q) (λ z. omega (arith, q, z)) .1));
+              (omega (
+                arith,
+                forced .closed .followed s t l (at-spare s l) q .1,
+                forced .closed .covered t s l (at-tree t (valid .below s t l q)) (valid .covers s t l q) (λ z. omega (arith, q, z)) .1,
+              ));
           above = λ s l. pos-le (forced .spare-own s (omega arith) l .1);
           below = λ t l. ≤ℤ-trans (tree-lowest t l) (slack .below t l);
           spare-free = λ s l q. ap pos (forced .closed .free s l q .1);
@@ -96,7 +100,13 @@ module _ (p : Problem) (ranked : Ranked p) (mates : Mates) (valid : Valid p mate
         at-spare : (s : ℕ) → s < p .spares → labels p mates .spareDone s ≡ true
         at-spare = spare-done p mates AtTree AtSpare (labels p mates) forced
 
-        feasible : (t s : ℕ) → t < p .trees → s < p .spares → p .covers t s ≡ true → Mate mates s → pos (labels p mates .treeLabel t) ≤ℤ pos (labels p mates .spareLabel s)
+        feasible :
+            (t s : ℕ) →
+            t < p .trees →
+            s < p .spares →
+            p .covers t s ≡ true →
+            Mate mates s →
+            pos (labels p mates .treeLabel t) ≤ℤ pos (labels p mates .spareLabel s)
         feasible t s k l c (free q) =
             rw (forced .closed .free s l q .1) (≤ℤ-trans (tree-lowest t k) (rw (slack .spare-free s l q) at (slack .feasible t s k l c)))
         feasible t s k l c (pair x q) = pos-le (forced .closed .covered t s l (at-tree t k) c (λ z. omega (arith, q, z)) .1)
@@ -104,5 +114,12 @@ module _ (p : Problem) (ranked : Ranked p) (mates : Mates) (valid : Valid p mate
 pub labels-slack : (p : Problem) → Ranked p → (mates : Mates) → Valid p mates → (d : RankCosts) → Slack p mates d → Slack p mates (labelCosts (labels p mates))
 labels-slack p ranked mates valid d slack = forced-slack p ranked mates valid d slack
 
-pub labels-lowest : (p : Problem) → Ranked p → (mates : Mates) → Valid p mates → (e : RankCosts) → Slack p mates e → ((t : ℕ) → t < p .trees → labelCosts (labels p mates) .tree t ≤ℤ e .tree t) × ((s : ℕ) → s < p .spares → labelCosts (labels p mates) .spare s ≤ℤ e .spare s)
+pub labels-lowest :
+    (p : Problem) →
+    Ranked p →
+    (mates : Mates) →
+    Valid p mates →
+    (e : RankCosts) →
+    Slack p mates e →
+    ((t : ℕ) → t < p .trees → labelCosts (labels p mates) .tree t ≤ℤ e .tree t) × ((s : ℕ) → s < p .spares → labelCosts (labels p mates) .spare s ≤ℤ e .spare s)
 labels-lowest p ranked mates valid e slack = (tree-lowest p ranked mates valid e slack, spare-lowest p ranked mates valid e slack)

@@ -35,7 +35,13 @@ first-invariant p =
       high-tree = λ x s t l q c a b. clash q refl;
     }
 
-all-augmented : (p : Problem) → Ranked p → (turns t : ℕ) (pr : Progress) (d : ℕ → ℕ) → t + turns ≡ p .trees → Invariant p t pr d → (d′ : ℕ → ℕ) × Pairs p (p .trees) (scan (augment p) turns t pr .mates) d′ × ((x : ℕ) → x < p .trees → Done p (scan (augment p) turns t pr .mates) d′ x)
+all-augmented :
+    (p : Problem) →
+    Ranked p →
+    (turns t : ℕ) (pr : Progress) (d : ℕ → ℕ) →
+    t + turns ≡ p .trees →
+    Invariant p t pr d →
+    (d′ : ℕ → ℕ) × Pairs p (p .trees) (scan (augment p) turns t pr .mates) d′ × ((x : ℕ) → x < p .trees → Done p (scan (augment p) turns t pr .mates) d′ x)
 unfolding scan
 all-augmented p r zero t pr d e i = let q : t ≡ p .trees = omega arith in (d, rw q at (i .pairs), rw q at (i .done))
 all-augmented p r (suc turns) t pr d e i =

@@ -2,14 +2,13 @@
 -- a job and what is demanded of it. Definitions only. Assumes nothing.
 use Prim.Native.Nat.{ℕ, _≤_, _<_}
 use mathlib.Core.Path.{_≡_}
-use mathlib.Core.Bool.{Bool, true, false}
+use mathlib.Core.Bool.{true}
 use mathlib.Core.List.{List, [], _∷_, flatMap, List·Memᴰ}
 use lib.IntN.{ℤ, pos, natAbs, _+ℤ_, _-ℤ_}
 use lib.Signed.{_≤ℤ_}
 use lib.ListN.{length, getD}
-use Rattle.loops.specs.Loop.{sum}
-use Rattle.graph.specs.Graph.{Graph, EdgeSet, Minimum, Covers, NoneTwice}
-use Rattle.graph.specs.Rank.{spareOf}
+use Rattle.loops.specs.Below.{sum}
+use Rattle.graph.specs.Graph.{Graph, EdgeSet, Minimum, Covers, NoneTwice, spareOf}
 
 -- A choice of new costs gives each edge one integer, negative ones included.
 abbrev pub Costs : Type 0

@@ -11,9 +11,9 @@ use lib.Signed.{_≤ℤ_}
 use lib.ListN.{length, getD}
 use borrow.Author.Tests.{not-true, lt-ltb}
 use Rattle.loops.specs.TestLaws.{and-first, and-second, and-both}
-use Rattle.graph.specs.Graph.{Graph, Sound, EdgeSet, SpanningTree, Minimum, Covers}
+use Rattle.graph.specs.Graph.{Graph, Sound, EdgeSet, SpanningTree, Minimum, Covers, spareOf}
 use Rattle.graph.specs.Integers.{pos-le, ≤ℤ-trans}
-use Rattle.graph.specs.Rank.{spareOf, treeRanks, spareRanks}
+use Rattle.graph.specs.Rank.{treeRanks, spareRanks}
 use Rattle.graph.specs.RankLaws.{tree-lists, spare-lists}
 use Rattle.graph.specs.Paths.{rooted, coversRank}
 use Rattle.graph.specs.Walks.{walk-member}

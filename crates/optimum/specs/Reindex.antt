@@ -5,7 +5,8 @@ use mathlib.Core.Path.{_≡_, refl, _∙_}
 use mathlib.Core.Logic.{_≢_}
 use native.Mathlib.Omega.{arith}
 use native.Mathlib.Decide.{ℕ-discrete}
-use Rattle.loops.specs.Loop.{sum, put}
+use Rattle.loops.specs.Below.{sum}
+use Rattle.loops.specs.Loop.{put}
 use Rattle.loops.specs.PutLaws.{put-same, put-other}
 use Rattle.loops.specs.SumLaws.{sum-put}
 use Rattle.optimum.specs.Search.{Mates}

@@ -3,7 +3,8 @@
 use Prim.Native.Nat.{ℕ, zero, suc}
 use mathlib.Core.Bool.{Bool, true, false, cond, not, _&&_}
 use lib.Dec.{ltb, eqb}
-use Rattle.loops.specs.Loop.{scan, choose, put, first, pick}
+use Rattle.loops.specs.Loop.{scan, put, first, pick}
+use Rattle.loops.specs.Below.{choose}
 
 -- Tree edges and non-tree edges by rank: how many, the relation to match in, and their old costs. In the answer's problem
 -- (Solve.antt) `covers t s` says that non-tree rank s covers tree rank t and costs less. Tree ranks go by falling, non-tree

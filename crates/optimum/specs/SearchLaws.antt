@@ -8,7 +8,8 @@ use mathlib.Core.Logic.{_≢_, _⊎_, inl, inr}
 use mathlib.Core.Bool.{Bool, true, false, cond, not, _&&_}
 use lib.Dec.{ltb}
 use borrow.Author.Tests.{ltb-true, lt-ltb, le-ltb, not-true}
-use Rattle.loops.specs.Loop.{choose, put}
+use Rattle.loops.specs.Below.{choose}
+use Rattle.loops.specs.Loop.{put}
 use Rattle.loops.specs.TestLaws.{truth, clash, and-first, and-second, and-miss, cond-both, choose-both}
 use Rattle.loops.specs.PutLaws.{put-same, put-other, put-back, put-split, put-kept}
 use Rattle.graph.specs.Graph.{count}
@@ -20,7 +21,14 @@ use Rattle.optimum.specs.Search.{Problem, Mates, Search, seeTree, seeSpa
 -- the start of the search.
 pub data AugmentingPath (p : Problem) (goal : ℕ) (base : Mates) : Mates → ℕ → Mates → Type 0 where
   stop : {m : Mates} {t : ℕ} → goal < p .spares → p .covers t goal ≡ true → m goal ≡ base goal → AugmentingPath p goal base m t (put m goal (suc t))
-  via : {m m′ : Mates} {t s t′ : ℕ} → s < p .spares → p .covers t s ≡ true → base s ≡ suc t′ → m s ≡ suc t′ → AugmentingPath p goal base (put m s (suc t)) t′ m′ → AugmentingPath p goal base m t m′
+  via :
+      {m m′ : Mates} {t s t′ : ℕ} →
+      s < p .spares →
+      p .covers t s ≡ true →
+      base s ≡ suc t′ →
+      m s ≡ suc t′ →
+      AugmentingPath p goal base (put m s (suc t)) t′ m′ →
+      AugmentingPath p goal base m t m′
 
 pub no-path : (p : Problem) {base m m′ : Mates} {t : ℕ} → AugmentingPath p (p .spares) base m t m′ → ⊥
 no-path p (stop b c e) = omega arith
@@ -87,24 +95,40 @@ module _ (p : Problem) (goal : ℕ) (base : Mates) (OnTree OnSpare : ℕ → Typ
         unmet = h .unmet;
       }
     where
-      tree-on : (t : ℕ) → (a .treeSeen t ≡ true) ⊎ TreeClosed p goal OnTree (b .spareSeen) t → (a .treeSeen t ≡ true) ⊎ TreeClosed p goal OnTree (c .spareSeen) t
+      tree-on :
+          (t : ℕ) →
+          (a .treeSeen t ≡ true) ⊎ TreeClosed p goal OnTree (b .spareSeen) t →
+          (a .treeSeen t ≡ true) ⊎ TreeClosed p goal OnTree (c .spareSeen) t
       tree-on t (inl q) = inl q
       tree-on t (inr q) = inr (record { holds = q .holds; missed = q .missed; tried = λ s l e. h .spares s (q .tried s l e) })
 
-      tree-at : (t : ℕ) → (b .treeSeen t ≡ true) ⊎ TreeClosed p goal OnTree (c .spareSeen) t → (a .treeSeen t ≡ true) ⊎ TreeClosed p goal OnTree (c .spareSeen) t
+      tree-at :
+          (t : ℕ) →
+          (b .treeSeen t ≡ true) ⊎ TreeClosed p goal OnTree (c .spareSeen) t →
+          (a .treeSeen t ≡ true) ⊎ TreeClosed p goal OnTree (c .spareSeen) t
       tree-at t (inl q) = tree-on t (g .new-tree t q)
       tree-at t (inr q) = inr q
 
-      spare-on : (s : ℕ) → (a .spareSeen s ≡ true) ⊎ SpareClosed p base OnSpare (b .treeSeen) s → (a .spareSeen s ≡ true) ⊎ SpareClosed p base OnSpare (c .treeSeen) s
+      spare-on :
+          (s : ℕ) →
+          (a .spareSeen s ≡ true) ⊎ SpareClosed p base OnSpare (b .treeSeen) s →
+          (a .spareSeen s ≡ true) ⊎ SpareClosed p base OnSpare (c .treeSeen) s
       spare-on s (inl q) = inl q
       spare-on s (inr q) =
           inr (record { below = q .below; holds = q .holds; followed = λ t e. h .trees t (q .followed t e) })
 
-      spare-at : (s : ℕ) → (b .spareSeen s ≡ true) ⊎ SpareClosed p base OnSpare (c .treeSeen) s → (a .spareSeen s ≡ true) ⊎ SpareClosed p base OnSpare (c .treeSeen) s
+      spare-at :
+          (s : ℕ) →
+          (b .spareSeen s ≡ true) ⊎ SpareClosed p base OnSpare (c .treeSeen) s →
+          (a .spareSeen s ≡ true) ⊎ SpareClosed p base OnSpare (c .treeSeen) s
       spare-at s (inl q) = spare-on s (g .new-spare s q)
       spare-at s (inr q) = inr q
 
-during-grown : (p : Problem) (goal : ℕ) (start : Search) (OnTree OnSpare : ℕ → Type 0) (st st′ : Search) → During p goal start st → Grown p goal (start .mates) OnTree OnSpare st st′ → During p goal start st′
+during-grown :
+    (p : Problem) (goal : ℕ) (start : Search) (OnTree OnSpare : ℕ → Type 0) (st st′ : Search) →
+    During p goal start st →
+    Grown p goal (start .mates) OnTree OnSpare st st′ →
+    During p goal start st′
 during-grown p goal start OnTree OnSpare st st′ d g =
     record {
       trees = λ t q. g .trees t (d .trees t q);
@@ -125,7 +149,11 @@ during-see-tree p goal start t st d =
     }
 
 -- Non-tree rank s, not the goal, visited and matched to t.
-during-match : (p : Problem) (goal : ℕ) (start : Search) (t s : ℕ) (st : Search) → s ≢ goal → During p goal start st → During p goal start (match t s (seeSpare s st))
+during-match :
+    (p : Problem) (goal : ℕ) (start : Search) (t s : ℕ) (st : Search) →
+    s ≢ goal →
+    During p goal start st →
+    During p goal start (match t s (seeSpare s st))
 during-match p goal start t s st n d =
     record {
       trees = d .trees;
@@ -161,7 +189,11 @@ Visited p goal base OnTree OnSpare st t st′ =
 
 module _ (p : Problem) (goal : ℕ) (base : Mates) (OnTree OnSpare : ℕ → Type 0) where
   -- Non-tree rank s visited, and its mate too in the end.
-  pub grown-spare : (s : ℕ) (st st′ : Search) → Grown p goal base OnTree OnSpare (seeSpare s st) st′ → SpareClosed p base OnSpare (st′ .treeSeen) s → Grown p goal base OnTree OnSpare st st′
+  pub grown-spare :
+      (s : ℕ) (st st′ : Search) →
+      Grown p goal base OnTree OnSpare (seeSpare s st) st′ →
+      SpareClosed p base OnSpare (st′ .treeSeen) s →
+      Grown p goal base OnTree OnSpare st st′
   grown-spare s st st′ g c =
       record {
         trees = g .trees;
@@ -176,7 +208,10 @@ module _ (p : Problem) (goal : ℕ) (base : Mates) (OnTree OnSpare : ℕ → Typ
       old-spare x (inl q) = inr (rw q c)
       old-spare x (inr q) = inl q
 
-      at-spare : (x : ℕ) → (put (st .spareSeen) s true x ≡ true) ⊎ SpareClosed p base OnSpare (st′ .treeSeen) x → (st .spareSeen x ≡ true) ⊎ SpareClosed p base OnSpare (st′ .treeSeen) x
+      at-spare :
+          (x : ℕ) →
+          (put (st .spareSeen) s true x ≡ true) ⊎ SpareClosed p base OnSpare (st′ .treeSeen) x →
+          (st .spareSeen x ≡ true) ⊎ SpareClosed p base OnSpare (st′ .treeSeen) x
       at-spare x (inl q) = old-spare x (put-split (st .spareSeen) s x q)
       at-spare x (inr q) = inr q
 
@@ -184,7 +219,12 @@ module _ (p : Problem) (goal : ℕ) (base : Mates) (OnTree OnSpare : ℕ → Typ
   grown-see s st h c = grown-spare s st (seeSpare s st) (grown-refl p goal base OnTree OnSpare (seeSpare s st) h) c
 
   -- Its mate's search has failed, and it is matched to its mate again.
-  grown-around : (t s t′ : ℕ) (st st′ : Search) → Grown p goal base OnTree OnSpare (match t s (seeSpare s st)) st′ → st .mates s ≡ suc t′ → SpareClosed p base OnSpare (st′ .treeSeen) s → Grown p goal base OnTree OnSpare st (match t′ s st′)
+  grown-around :
+      (t s t′ : ℕ) (st st′ : Search) →
+      Grown p goal base OnTree OnSpare (match t s (seeSpare s st)) st′ →
+      st .mates s ≡ suc t′ →
+      SpareClosed p base OnSpare (st′ .treeSeen) s →
+      Grown p goal base OnTree OnSpare st (match t′ s st′)
   grown-around t s t′ st st′ g e c =
       grown-spare s st (match t′ s st′)
       record {
@@ -198,7 +238,11 @@ module _ (p : Problem) (goal : ℕ) (base : Mates) (OnTree OnSpare : ℕ → Typ
       c
 
   -- Tree rank t visited, and what covers it tried.
-  grown-tree : (t : ℕ) (st st′ : Search) → Grown p goal base OnTree OnSpare (seeTree t st) st′ → TreeClosed p goal OnTree (st′ .spareSeen) t → Grown p goal base OnTree OnSpare st st′
+  grown-tree :
+      (t : ℕ) (st st′ : Search) →
+      Grown p goal base OnTree OnSpare (seeTree t st) st′ →
+      TreeClosed p goal OnTree (st′ .spareSeen) t →
+      Grown p goal base OnTree OnSpare st st′
   grown-tree t st st′ g c =
       record {
         trees = λ x q. g .trees x (put-kept (st .treeSeen) t x q);
@@ -213,7 +257,10 @@ module _ (p : Problem) (goal : ℕ) (base : Mates) (OnTree OnSpare : ℕ → Typ
       old-tree x (inl q) = inr (rw q c)
       old-tree x (inr q) = inl q
 
-      at-tree : (x : ℕ) → (put (st .treeSeen) t true x ≡ true) ⊎ TreeClosed p goal OnTree (st′ .spareSeen) x → (st .treeSeen x ≡ true) ⊎ TreeClosed p goal OnTree (st′ .spareSeen) x
+      at-tree :
+          (x : ℕ) →
+          (put (st .treeSeen) t true x ≡ true) ⊎ TreeClosed p goal OnTree (st′ .spareSeen) x →
+          (st .treeSeen x ≡ true) ⊎ TreeClosed p goal OnTree (st′ .spareSeen) x
       at-tree x (inl q) = old-tree x (put-split (st .treeSeen) t x q)
       at-tree x (inr q) = inr q
 
@@ -237,9 +284,21 @@ module _
     module _
         (depth : ℕ)
         (visit : ℕ → Search → Search)
-        (visits : (t : ℕ) (st : Search) → OnTree t → During p goal start st → p .trees < depth + count (p .trees) (put (st .treeSeen) t true) → Visits st t (visit t st))
+        (visits : (t : ℕ) (st : Search) → OnTree t → During p goal start st → p .trees < depth + count (p .trees) (put (st .treeSeen) t true) → Visits st t
+        (visit t st))
       where
-        follow-ends : (t s : ℕ) (st : Search) → s < p .spares → p .covers t s ≡ true → OnSpare s → s ≢ goal → During p goal start st → st .spareSeen s ≡ false → p .trees ≤ depth + count (p .trees) (st .treeSeen) → (mate : ℕ) → st .mates s ≡ mate → Tries st t (_≡_ s) (follow visit t s mate (seeSpare s st))
+        follow-ends :
+            (t s : ℕ) (st : Search) →
+            s < p .spares →
+            p .covers t s ≡ true →
+            OnSpare s →
+            s ≢ goal →
+            During p goal start st →
+            st .spareSeen s ≡ false →
+            p .trees ≤ depth + count (p .trees) (st .treeSeen) →
+            (mate : ℕ) →
+            st .mates s ≡ mate →
+            Tries st t (_≡_ s) (follow visit t s mate (seeSpare s st))
         unfolding follow
         follow-ends t s st l c o n d f m zero e =
             inl (
@@ -249,7 +308,10 @@ module _
             )
         follow-ends t s st l c o n d f m (suc t′) e =
             choose-both (Tries st t (_≡_ s)) _ _ _
-            (λ h. inl (grown-see p goal (start .mates) OnTree OnSpare s st (d .unmet) (closed (st .treeSeen) h), λ y q _. rw (← q) (put-same (st .spareSeen) s true)))
+            (λ h. inl (
+              grown-see p goal (start .mates) OnTree OnSpare s st (d .unmet) (closed (st .treeSeen) h),
+              λ y q _. rw (← q) (put-same (st .spareSeen) s true),
+            ))
             (λ h.
             at-visit
             (visits t′ (match t s (seeSpare s st))
@@ -282,17 +344,28 @@ module _
             at-visit (inr x) =
                 cond-both (Tries st t (_≡_ s)) _ _ _ (λ _. inr (x .0, via l c mate-is e (x .1))) (λ q. clash (x .0) q)
 
-        spares-end : (t turns : ℕ) (st : Search) → p .spares ≤ turns + count (p .spares) (st .spareSeen) → ((s : ℕ) → s < p .spares → p .covers t s ≡ true → s ≢ goal) → OnTree t → During p goal start st → p .trees ≤ depth + count (p .trees) (st .treeSeen) → Tries st t (λ s. s < p .spares) (trySpares p visit t turns st)
+        spares-end :
+            (t turns : ℕ) (st : Search) →
+            p .spares ≤ turns + count (p .spares) (st .spareSeen) →
+            ((s : ℕ) → s < p .spares → p .covers t s ≡ true → s ≢ goal) →
+            OnTree t →
+            During p goal start st →
+            p .trees ≤ depth + count (p .trees) (st .treeSeen) →
+            Tries st t (λ s. s < p .spares) (trySpares p visit t turns st)
         unfolding trySpares
         spares-end t zero st k n o d m =
-            inl (grown-refl p goal (start .mates) OnTree OnSpare st (d .unmet), λ s l _. count-full (p .spares) (st .spareSeen) (omega (arith, count-below (p .spares) (st .spareSeen))) s l)
+            inl (
+              grown-refl p goal (start .mates) OnTree OnSpare st (d .unmet),
+              λ s l _. count-full (p .spares) (st .spareSeen) (omega (arith, count-below (p .spares) (st .spareSeen))) s l,
+            )
         spares-end t (suc turns) st k n o d m = elim (pick-is (p .spares) (λ s. p .covers t s && not (st .spareSeen s))) [
           | inl f ↦
               let c : p .covers t s ≡ true = and-first (p .covers t s) (not (st .spareSeen s)) (f .1) in
               let v : st .spareSeen s ≡ false = not-true (st .spareSeen s) (and-second (p .covers t s) (not (st .spareSeen s)) (f .1)) in
               rw (lt-ltb s (p .spares) (f .0))
               (after _
-              (follow-ends t s st (f .0) c (kept .to-spare t s (f .0) o c (unseen (start .spareSeen) (st .spareSeen) s (d .spares) v)) (n s (f .0) c) d v m (st .mates s) refl)
+              (follow-ends t s st (f .0) c (kept .to-spare t s (f .0) o c (unseen (start .spareSeen) (st .spareSeen) s (d .spares) v)) (n s (f .0) c) d v m
+              (st .mates s) refl)
               (f .0) c v (λ next. spares-end t turns next))
           | inr f ↦
               rw (f .0, le-ltb (p .spares) (p .spares) (omega arith))
@@ -306,13 +379,19 @@ module _
             all s c h = elim (truth (st .spareSeen s)) [ inl q ↦ q | inr q ↦ clash (rw (c, q)) h ]
 
             after : (next : Search) → Tries st t (_≡_ s) next → s < p .spares → p .covers t s ≡ true → st .spareSeen s ≡ false
-                → ((next : Search) → p .spares ≤ turns + count (p .spares) (next .spareSeen) → ((s : ℕ) → s < p .spares → p .covers t s ≡ true → s ≢ goal) → OnTree t → During p goal start next → p .trees ≤ depth + count (p .trees) (next .treeSeen) → Tries next t (λ s. s < p .spares) (trySpares p visit t turns next))
+                → ((next : Search) → p .spares ≤ turns + count (p .spares) (next .spareSeen) → ((s : ℕ) → s < p .spares → p .covers t s ≡ true → s ≢
+                goal) → OnTree t → During p goal start next → p .trees ≤ depth + count (p .trees) (next .treeSeen) → Tries next t (λ s.
+                s < p .spares) (trySpares p visit t turns next))
                 → Tries st t (λ s. s < p .spares) (choose (next .met) (λ _. next) (λ _. trySpares p visit t turns next))
             after next (inr x) l c v rest = choose-both (Tries st t (λ s. s < p .spares)) (next .met) _ _ (λ _. inr x) (λ q. clash (x .0) q)
             after next (inl x) l c v rest =
                 choose-both (Tries st t (λ s. s < p .spares)) (next .met) _ _ (λ q. clash q (x .0 .unmet))
                 (λ _. join (rest next
-                (omega (arith, rw v at (count-put (p .spares) (st .spareSeen) s true l), count-within (p .spares) (put (st .spareSeen) s true) (next .spareSeen) (λ y _ q. grew y (put-split (st .spareSeen) s y q))))
+                (omega (
+                  arith,
+                  rw v at (count-put (p .spares) (st .spareSeen) s true l),
+                  count-within (p .spares) (put (st .spareSeen) s true) (next .spareSeen) (λ y _ q. grew y (put-split (st .spareSeen) s y q)),
+                ))
                 n o
                 (during-grown p goal start OnTree OnSpare st next d (x .0))
                 (omega (arith, count-within (p .trees) (st .treeSeen) (next .treeSeen) (λ y _. x .0 .trees y)))))
@@ -325,7 +404,12 @@ module _
                 join {st″} (inl y) = inl (grown-trans p goal (start .mates) OnTree OnSpare st next st″ (x .0) (y .0), y .1)
                 join (inr y) = inr (y .0, rw (x .0 .mates) at (y .1))
 
-    tree-ends : (depth t : ℕ) (st : Search) → OnTree t → During p goal start st → p .trees < depth + count (p .trees) (put (st .treeSeen) t true) → Visits st t (tryTree p goal depth t st)
+    tree-ends :
+        (depth t : ℕ) (st : Search) →
+        OnTree t →
+        During p goal start st →
+        p .trees < depth + count (p .trees) (put (st .treeSeen) t true) →
+        Visits st t (tryTree p goal depth t st)
     unfolding tryTree
     tree-ends zero t st o d m = absurd (omega (arith, count-below (p .trees) (put (st .treeSeen) t true)))
     tree-ends (suc depth) t st o d m =
@@ -363,17 +447,34 @@ module _
         (omega arith)
 
     -- A search that does not meet its goal explores all; one that does turns the matching along a path to it.
-    pub search-fails : (t : ℕ) → OnTree t → start .met ≡ false → search p goal t start .met ≡ false → Explored p goal (start .mates) OnTree OnSpare start t (search p goal t start)
+    pub search-fails :
+        (t : ℕ) →
+        OnTree t →
+        start .met ≡ false →
+        search p goal t start .met ≡ false →
+        Explored p goal (start .mates) OnTree OnSpare start t (search p goal t start)
     search-fails t o h e = elim (search-ends t o h) [ inl x ↦ x | inr x ↦ clash (x .0) e ]
 
-    pub search-turns : (t : ℕ) → OnTree t → start .met ≡ false → search p goal t start .met ≡ true → AugmentingPath p goal (start .mates) (start .mates) t (search p goal t start .mates)
+    pub search-turns :
+        (t : ℕ) →
+        OnTree t →
+        start .met ≡ false →
+        search p goal t start .met ≡ true →
+        AugmentingPath p goal (start .mates) (start .mates) t (search p goal t start .mates)
     search-turns t o h e = elim (search-ends t o h) [ inl x ↦ clash e (x .grown .unmet) | inr x ↦ x .1 ]
 
     -- A search without a goal explores all.
-    pub search-explores : (t : ℕ) → OnTree t → start .met ≡ false → goal ≡ p .spares → Explored p goal (start .mates) OnTree OnSpare start t (search p goal t start)
+    pub search-explores :
+        (t : ℕ) →
+        OnTree t →
+        start .met ≡ false →
+        goal ≡ p .spares →
+        Explored p goal (start .mates) OnTree OnSpare start t (search p goal t start)
     search-explores t o h e = all (search-ends t o h)
       where
-        all : Visited p goal (start .mates) OnTree OnSpare start t (search p goal t start) → Explored p goal (start .mates) OnTree OnSpare start t (search p goal t start)
+        all :
+            Visited p goal (start .mates) OnTree OnSpare start t (search p goal t start) →
+            Explored p goal (start .mates) OnTree OnSpare start t (search p goal t start)
         all (inl x) = x
         all (inr x) = absurd (no-path p (rw e at (x .1)))
 
@@ -385,7 +486,17 @@ pub kept-always : (p : Problem) (start : Search) → Kept p start Always Always
 kept-always p start = record { to-spare = λ t s l o c f. tt; to-mate = λ s t l o e f. tt }
 
 -- If a search that fails has visited a tree rank that the goal covers, the search for the goal meets it.
-pub search-meets : (p : Problem) (start : Search) → ((s t : ℕ) → s < p .spares → start .mates s ≡ suc t → t < p .trees) → start .met ≡ false → (t other goal x : ℕ) → search p other t start .met ≡ false → search p other t start .treeSeen x ≡ true → start .treeSeen x ≡ false → goal < p .spares → p .covers x goal ≡ true → AugmentingPath p goal (start .mates) (start .mates) t (search p goal t start .mates)
+pub search-meets :
+    (p : Problem) (start : Search) →
+    ((s t : ℕ) → s < p .spares → start .mates s ≡ suc t → t < p .trees) →
+    start .met ≡ false →
+    (t other goal x : ℕ) →
+    search p other t start .met ≡ false →
+    search p other t start .treeSeen x ≡ true →
+    start .treeSeen x ≡ false →
+    goal < p .spares →
+    p .covers x goal ≡ true →
+    AugmentingPath p goal (start .mates) (start .mates) t (search p goal t start .mates)
 search-meets p start below unmet t other goal x n h f l c = at-end (search-ends p goal start Always Always (kept-always p start) below t tt unmet)
   where
     out : Search
@@ -400,11 +511,20 @@ search-meets p start below unmet t other goal x n h f l c = at-end (search-ends 
     on-tree : Explored p goal (start .mates) Always Always start t out → (y : ℕ) → start .treeSeen y ≡ false → out .treeSeen y ≡ true → OnTree y
     on-tree e y a b = elim (e .grown .new-tree y b) [ inl q ↦ clash q a | inr k ↦ k ]
 
-    to-mate : Explored p goal (start .mates) Always Always start t out → (s y : ℕ) → s < p .spares → OnSpare s → start .mates s ≡ suc y → start .treeSeen y ≡ false → OnTree y
+    to-mate :
+        Explored p goal (start .mates) Always Always start t out →
+        (s y : ℕ) →
+        s < p .spares →
+        OnSpare s →
+        start .mates s ≡ suc y →
+        start .treeSeen y ≡ false →
+        OnTree y
     to-mate e s y m o q a = elim (e .grown .new-spare s (o .0)) [ inl k ↦ clash k (o .1) | inr k ↦ on-tree e y a (k .followed y q) ]
 
     at-end : Visited p goal (start .mates) Always Always start t out → AugmentingPath p goal (start .mates) (start .mates) t (out .mates)
     at-end (inr k) = k .1
     at-end (inl e) =
-        let all : Explored p other (start .mates) OnTree OnSpare start t (search p other t start) = search-fails p other start OnTree OnSpare record { to-spare = λ y s m o q a. (o .tried s m q, a); to-mate = to-mate e } below t (e .closed) unmet n in
+        let all : Explored p other (start .mates) OnTree OnSpare start t
+        (search p other t start) = search-fails p other start OnTree OnSpare record { to-spare = λ y s m o q a. (o .tried s m q, a); to-mate = to-mate e }
+        below t (e .closed) unmet n in
         elim (all .grown .new-tree x h) [ inl k ↦ clash k f | inr k ↦ clash c (k .holds .missed l) ]

@@ -6,7 +6,7 @@ use mathlib.Core.Logic.{_≢_}
 use mathlib.Core.Bool.{true}
 use lib.IntN.{ℤ, pos, natAbs, _-ℤ_}
 use lib.Signed.{_≤ℤ_}
-use Rattle.loops.specs.Loop.{sum}
+use Rattle.loops.specs.Below.{sum}
 use Rattle.optimum.specs.Search.{Problem, Mates}
 
 -- Ranks go by cost: tree ranks by falling, non-tree ranks by rising cost.

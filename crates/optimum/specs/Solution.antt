@@ -10,15 +10,16 @@ use native.Mathlib.Decide.{ℕ-discrete}
 use lib.IntN.{pos, natAbs, _-ℤ_}
 use lib.ListN.{length, getD}
 use borrow.Author.Tests.{not-true}
-use Rattle.loops.specs.Loop.{put, sum, gather}
+use Rattle.loops.specs.Loop.{put, gather}
+use Rattle.loops.specs.Below.{sum}
 use Rattle.loops.specs.TestLaws.{clash, and-second}
 use Rattle.loops.specs.PutLaws.{put-same, put-other}
 use Rattle.loops.specs.ScanLaws.{scan-leaves, scan-writes, scan-keeps}
 use Rattle.loops.specs.SumLaws.{sum-same, sum-zero, sum-plus, sumOver}
 use Rattle.loops.specs.Ordered.{Ordered}
 use Rattle.loops.specs.GatherLaws.{gather-has, gather-from, gather-ordered, gather-sum}
-use Rattle.graph.specs.Graph.{Graph, EdgeSet, NoneTwice}
-use Rattle.graph.specs.Rank.{spareOf, treeRanks, spareRanks}
+use Rattle.graph.specs.Graph.{Graph, EdgeSet, NoneTwice, spareOf}
+use Rattle.graph.specs.Rank.{treeRanks, spareRanks}
 use Rattle.graph.specs.RankLaws.{byFalling, byRising, ranks-sum, tree-lists, spare-lists, tree-falls, spare-rises}
 use Rattle.optimum.specs.Optimum.{Costs, deviation, Pair, both, weight, Rising, Falls}
 use Rattle.optimum.specs.Search.{Mates}

@@ -5,7 +5,8 @@ use mathlib.Core.Bool.{_&&_}
 use mathlib.Core.List.{List, [], _∷_}
 use lib.Dec.{ltb}
 use lib.ListN.{length, getD}
-use Rattle.loops.specs.Loop.{scan, put, sum, gather, tabulate}
+use Rattle.loops.specs.Loop.{scan, put, gather, tabulate}
+use Rattle.loops.specs.Below.{sum}
 use Rattle.graph.specs.Graph.{Graph, EdgeSet}
 use Rattle.graph.specs.Rank.{treeRanks, spareRanks}
 use Rattle.graph.specs.Paths.{Rooted, rooted, coversRank}

@@ -12,8 +12,8 @@ use lib.ListN.{length, getD}
 use Rattle.loops.specs.TestLaws.{truth, and-both}
 use Rattle.loops.specs.SumLaws.{sum-same}
 use Rattle.loops.specs.GatherLaws.{length-tabulate, getD-tabulate}
-use Rattle.graph.specs.Graph.{Graph, Sound, EdgeSet, SpanningTree, Minimum}
-use Rattle.graph.specs.Rank.{spareOf, treeRanks, spareRanks}
+use Rattle.graph.specs.Graph.{Graph, Sound, EdgeSet, SpanningTree, Minimum, spareOf}
+use Rattle.graph.specs.Rank.{treeRanks, spareRanks}
 use Rattle.graph.specs.RankLaws.{tree-lists, spare-lists}
 use Rattle.optimum.specs.Optimum.{Costs, deviation, IsPair, Matching, weight, Rising, Falls, chosen}
 use Rattle.optimum.specs.Search.{Mates, matching}

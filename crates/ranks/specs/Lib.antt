@@ -1,6 +1,3 @@
--- Ranks: the radix sort on lists, the keys that edges are sorted by, and their laws.
-pub mod Radix
-pub mod RadixLaws
-pub mod PassLaws
+-- Ranks: the keys that edges are sorted by, and their laws.
 pub mod Keys
 pub mod KeysLaws

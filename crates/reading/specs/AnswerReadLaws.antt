@@ -1,30 +1,33 @@
 -- An answer read into arrays of zeros stands there whole, and is the answer that the frame holds. Assumes nothing.
-use Prim.Native.Nat.{ℕ, _<_, _≤_}
+use Prim.Native.Nat.{ℕ, zero, suc, _+_, _*_, _<_, _≤_}
 use native.Mathlib.Decide.{decLt}
 use native.Mathlib.Omega.{arith}
 use mathlib.Core.Path.{_≡_, refl, sym, ap, subst, _∙_}
 use mathlib.Core.Logic.{⊎-elim}
 use mathlib.Core.Bool.{true}
-use mathlib.Core.List.{List}
+use mathlib.Core.List.{List, [], _∷_, flatMap}
 use mathlib.Core.Option.{Option, some, none}
 use lib.ListN.{length, getD, List·getD-eq-default}
 use lib.Seq.{ext-getD}
 use Rattle.loops.specs.Loop.{tabulate}
 use Rattle.loops.specs.TestLaws.{truth}
 use Rattle.loops.specs.GatherLaws.{length-tabulate, getD-tabulate}
-use Rattle.optimum.specs.Optimum.{Pair, Answer}
+use Rattle.optimum.specs.Optimum.{Pair, both, Answer}
 use Rattle.optimum.specs.PairLaws.{rising-count}
-use Rattle.leb128.specs.Number.{Bytes}
+use Rattle.number.specs.Number.{Bytes}
 use Rattle.frame.specs.Job.{Job, treeOf}
 use Rattle.frame.specs.Questions.{jobOf, refusal}
-use Rattle.frame.specs.Answers.{noPair, readAnswer, judgeAnswer}
+use Rattle.frame.specs.Answers.{noPair, pairFrom, readAnswer, judgeAnswer}
 use Rattle.frame.specs.Meaning.{Accepted}
 use Rattle.frame.specs.Accepted.{accepted}
 use Rattle.frame.specs.AnswerMeaning.{Certified}
 use Rattle.frame.specs.AnswerLayout.{layout-read}
-use Rattle.job.specs.Held.{zeros, zero-at}
+use Rattle.links.specs.ColumnLaws.{zeros, zero-at}
+use Rattle.codec.specs.Numbers.{numbersAt}
+use Rattle.codec.specs.Held.{pairsAt, answerAt}
+use Rattle.codec.specs.HeldLaws.{pair-numbers}
 use Rattle.answer_read.specs.declared.Contents.{Contents}
-use Rattle.answer_read.specs.Reading.{contents, few, pairIn, answerIn, Behind}
+use Rattle.answer_read.specs.Reading.{contents, few, Behind}
 use Rattle.answer_read.specs.AnswerLaws.{found-answer, missed-answer}
 use Rattle.judging.specs.declared.Verdict.{Verdict}
 use Rattle.judging.specs.declared.Verdict.the-variants.{Yes, No, Refused}
@@ -39,57 +42,43 @@ whole n xs f size h =
     ext-getD 0 xs (tabulate n f) (size ∙ sym (length-tabulate f n))
     λ i l. let k : i < n = omega (arith, size) in h i k ∙ sym (getD-tabulate f n i 0 k)
 
-module _ (m : ℕ) (r : Contents) (cs ts ss : List ℕ) (k : Behind m (r .count) (zeros 256) cs (zeros 64) ts (zeros 64) ss) where
-  costs-whole : cs ≡ tabulate 256 (λ e. getD (tabulate m (λ e. getD cs e 0)) e 0)
-  costs-whole =
-      whole 256 cs (λ e. getD (tabulate m (λ e. getD cs e 0)) e 0) (k .places .costs)
-      λ e _.
-      elim (decLt e m) [
-        | yes l ↦ sym (getD-tabulate (λ e. getD cs e 0) m e 0 l)
-        | no l ↦ k .costs e (omega arith) ∙ zero-at 256 e ∙ sym (List·getD-eq-default (tabulate m (λ e. getD cs e 0)) 0 (omega (arith, length-tabulate (λ e. getD cs e 0) m)))
-      ]
+-- The first m numbers of a list of n, zeros behind them.
+padded : (n m : ℕ) (xs : List ℕ) → length xs ≡ n → ((i : ℕ) → m ≤ i → getD xs i 0 ≡ getD (zeros n) i 0) → xs ≡ numbersAt n (numbersAt m xs)
+padded n m xs size past =
+    whole n xs (λ i. getD (numbersAt m xs) i 0) size
+    λ i _.
+    elim (decLt i m) [
+      | yes l ↦ sym (getD-tabulate (λ i. getD xs i 0) m i 0 l)
+      | no l ↦
+          past i (omega arith) ∙ zero-at n i ∙
+          sym (List·getD-eq-default (numbersAt m xs) 0 (omega (arith, length-tabulate (λ i. getD xs i 0) m)))
+    ]
 
-  -- One number of each pair.
-  pairs-whole :
-      (f : Pair → ℕ) (xs : List ℕ) →
-      f noPair ≡ 0 →
-      length xs ≡ 64 →
-      ((i : ℕ) → getD xs i 0 ≡ f (pairIn ts ss i)) →
-      ((i : ℕ) → r .count ≤ i → getD xs i 0 ≡ getD (zeros 64) i 0) →
-      xs ≡ tabulate 64 (λ i. f (getD (tabulate (r .count) (pairIn ts ss)) i noPair))
-  pairs-whole f xs z size is past =
-      whole 64 xs (λ i. f (getD (tabulate (r .count) (pairIn ts ss)) i noPair)) size
-      λ i _.
-      elim (decLt i (r .count)) [
-        | yes l ↦ is i ∙ sym (ap f (getD-tabulate (pairIn ts ss) (r .count) i noPair l))
-        | no l ↦
-            past i (omega arith) ∙ zero-at 64 i ∙
-            sym (ap f (List·getD-eq-default (tabulate (r .count) (pairIn ts ss)) noPair (omega (arith, length-tabulate (pairIn ts ss) (r .count)))) ∙ z)
-      ]
-
-  -- The arrays are those of the answer that stands in them.
-  arrays-read : record { verdict = Yes; steps = r .steps; costs = cs; count = r .count; trees = ts; spares = ss } ≡ answerRead (answerIn m (r .steps) (r .count) cs ts ss)
-  arrays-read i =
-      record {
-        verdict = Yes;
-        steps = r .steps;
-        costs = costs-whole i;
-        count = sym (length-tabulate (pairIn ts ss) (r .count)) i;
-        trees = pairs-whole (λ p. p .tree) ts refl (k .places .trees) (λ _. refl) (k .trees) i;
-        spares = pairs-whole (λ p. p .spare) ss refl (k .places .spares) (λ _. refl) (k .spares) i;
-      }
+-- The arrays are those of the answer that stands in them.
+arrays-read :
+    (m : ℕ) (r : Contents) (cs ps : List ℕ) → Behind m (r .count) (zeros 256) cs (zeros 128) ps →
+    record { verdict = Yes; steps = r .steps; costs = cs; count = r .count; pairs = ps } ≡ answerRead (answerAt (r .steps) m cs (r .count) ps)
+arrays-read m r cs ps k i =
+    record {
+      verdict = Yes;
+      steps = r .steps;
+      costs = padded 256 m cs (k .places .costs) (k .costs) i;
+      count = sym (length-tabulate (pairFrom ps) (r .count)) i;
+      pairs = (padded 128 (2 * r .count) ps (k .places .pairs) (k .pairs) ∙ ap (numbersAt 128) (sym (pair-numbers ps (r .count)))) i;
+    }
 
 -- A frame that holds an answer of at most 64 pairs is read.
-module _ (m : ℕ) (r : Contents) (cs ts ss : List ℕ) (o : Option Answer) (e : contents m r cs ts ss ≡ few o) (a : Answer) (is : o ≡ some a) (most : length (a .pairs) ≤ 64) where
+module _ (m : ℕ) (r : Contents) (cs ps : List ℕ) (o : Option Answer) (e : contents m r cs ps ≡ few o) (a : Answer) (is : o ≡ some a)
+    (most : length (a .pairs) ≤ 64) where
   found : r .ok ≡ true
-  found = ⊎-elim (λ y. y) (λ n. absurd (omega (arith, most, missed-answer m r cs ts ss o e n a is))) (truth (r .ok))
+  found = ⊎-elim (λ y. y) (λ n. absurd (omega (arith, most, missed-answer m r cs ps o e n a is))) (truth (r .ok))
 
   pub contents-read :
-      (r .ok ≡ true → Behind m (r .count) (zeros 256) cs (zeros 64) ts (zeros 64) ss) →
-      record { verdict = Yes; steps = r .steps; costs = cs; count = r .count; trees = ts; spares = ss } ≡ answerRead a
+      (r .ok ≡ true → Behind m (r .count) (zeros 256) cs (zeros 128) ps) →
+      record { verdict = Yes; steps = r .steps; costs = cs; count = r .count; pairs = ps } ≡ answerRead a
   contents-read kept =
-      let same : answerIn m (r .steps) (r .count) cs ts ss ≡ a = cc (found-answer m r cs ts ss o e found, is) in
-      arrays-read m r cs ts ss (kept found) ∙ ap answerRead same
+      let same : answerAt (r .steps) m cs (r .count) ps ≡ a = cc (found-answer m r cs ps o e found, is) in
+      arrays-read m r cs ps (kept found) ∙ ap answerRead same
 
 -- ---- what is read of a frame
 
@@ -100,26 +89,45 @@ numbers-back n xs h =
     (whole (length xs) xs (λ e. getD (tabulate n (λ e. getD xs e 0)) e 0) refl
     λ e l. sym (getD-tabulate (λ e. getD xs e 0) n e 0 (omega (arith, l, h))))
 
-pairs-back : (n : ℕ) (ps : List Pair) → length ps ≤ n → tabulate (length ps) (pairIn (tabulate n (λ i. getD ps i noPair .tree)) (tabulate n (λ i. getD ps i noPair .spare))) ≡ ps
-pairs-back n ps h =
-    let f : ℕ → Pair = pairIn (tabulate n (λ i. getD ps i noPair .tree)) (tabulate n (λ i. getD ps i noPair .spare)) in
-    ext-getD noPair (tabulate (length ps) f) ps (length-tabulate f (length ps))
+pair-of : (qs : List Pair) (i : ℕ) → pairFrom (flatMap both qs) i ≡ getD qs i noPair
+unfolding flatMap
+pair-of [] i = refl
+pair-of (q ∷ qs) zero = refl
+pair-of (q ∷ qs) (suc i) =
+    let first : 2 * suc i ≡ suc (suc (2 * i)) = omega arith in
+    let second : suc (suc (2 * i)) + 1 ≡ suc (suc (2 * i + 1)) = omega arith in
+    rw (first, second) (pair-of qs i)
+
+pub pairs-back : (n : ℕ) (qs : List Pair) → 2 * length qs ≤ n → pairsAt (length qs) (numbersAt n (flatMap both qs)) ≡ qs
+pairs-back n qs h =
+    let f : ℕ → Pair = pairFrom (numbersAt n (flatMap both qs)) in
+    let number : (k : ℕ) → k < 2 * length qs → getD (numbersAt n (flatMap both qs)) k 0 ≡ getD (flatMap both qs) k 0
+    = λ k l. getD-tabulate (λ k. getD (flatMap both qs) k 0) n k 0 (omega (arith, l, h)) in
+    ext-getD noPair (tabulate (length qs) f) qs (length-tabulate f (length qs))
     λ i l.
-    let k : i < length ps = omega (arith, length-tabulate f (length ps)) in
-    getD-tabulate f (length ps) i noPair k ∙
-    (λ x. record { tree = getD-tabulate (λ i. getD ps i noPair .tree) n i 0 (omega (arith, k, h)) x; spare = getD-tabulate (λ i. getD ps i noPair .spare) n i 0 (omega (arith, k, h)) x })
+    let k : i < length qs = omega (arith, length-tabulate f (length qs)) in
+    getD-tabulate f (length qs) i noPair k ∙
+    (λ x. record { tree = number (2 * i) (omega (arith, k)) x; spare = number (2 * i + 1) (omega (arith, k)) x }) ∙
+    pair-of qs i
 
 answer-back : (m : ℕ) (a : Answer) → length (a .costs) ≡ m → m ≤ 256 → length (a .pairs) ≤ 64 → answerOfRead m (answerRead a) ≡ a
 answer-back m a size few most =
     let costs : tabulate m (λ e. getD (tabulate 256 (λ e. getD (a .costs) e 0)) e 0) ≡ a .costs
-    = subst (λ (k : ℕ). tabulate k (λ e. getD (tabulate 256 (λ e. getD (a .costs) e 0)) e 0) ≡ a .costs) size (numbers-back 256 (a .costs) (omega (arith, size, few))) in
-    λ i. record { steps = a .steps; costs = costs i; pairs = pairs-back 64 (a .pairs) most i }
+    = subst (λ (k : ℕ). tabulate k (λ e. getD (tabulate 256 (λ e. getD (a .costs) e 0)) e 0) ≡ a .costs) size
+    (numbers-back 256 (a .costs) (omega (arith, size, few))) in
+    λ i. record { steps = a .steps; costs = costs i; pairs = pairs-back 128 (a .pairs) (omega (arith, most)) i }
 
 -- An answer that proves itself best has at most 63 pairs: no more than there are tree links.
 pub pairs-most : (j : Job) → Accepted j → {f : List ℕ} {a : Answer} → Certified j f a → length (a .pairs) ≤ 64
 pairs-most j k {a = a} c =
     let cert = c .certificate in
-    omega (arith, rising-count (length (j .links)) (treeOf j) (a .pairs) (cert .rising) (λ q m. (cert .matching .pairs q m .tree-below, cert .matching .pairs q m .tree-in)), k .tree .size, k .node-limit)
+    omega (
+      arith,
+      rising-count (length (j .links)) (treeOf j) (a .pairs) (cert .rising)
+          (λ q m. (cert .matching .pairs q m .tree-below, cert .matching .pairs q m .tree-in)),
+      k .tree .size,
+      k .node-limit,
+    )
 
 read-verdict : (v : Verdict) (o : Option Answer) → readOf v o .verdict ≡ v
 unfolding readOf
@@ -139,9 +147,12 @@ pub read-some : (v : Verdict) (o : Option Answer) (a : Answer) → v ≡ Yes →
 unfolding readOf
 read-some v o a y is = rw (y, is)
 
-module _ (s f : List ℕ) (b : Bytes s) (q : Bytes f) (r : AnswerRead) (e : r ≡ readOf (verdict (refusal s) (judgeAnswer (jobOf s) f)) (readAnswer (length (jobOf s .links)) f)) where
+module _ (s f : List ℕ) (b : Bytes s) (q : Bytes f) (r : AnswerRead)
+    (e : r ≡ readOf (verdict (refusal s) (judgeAnswer (jobOf s) f)) (readAnswer (length (jobOf s .links)) f)) where
   judged-read : AnswerJudged s f (r .verdict)
-  judged-read = answer-judged-of s b f q (r .verdict) (ap (λ (x : AnswerRead). x .verdict) e ∙ read-verdict (verdict (refusal s) (judgeAnswer (jobOf s) f)) (readAnswer (length (jobOf s .links)) f))
+  judged-read =
+      answer-judged-of s b f q (r .verdict) (ap (λ (x : AnswerRead). x .verdict) e ∙
+      read-verdict (verdict (refusal s) (judgeAnswer (jobOf s) f)) (readAnswer (length (jobOf s .links)) f))
 
   certified-read : r .verdict ≡ Yes → Certified (jobOf s) f (answerOfRead (length (jobOf s .links)) r)
   certified-read y =

@@ -1,15 +1,15 @@
 -- What is read of a frame that is offered as the answer to a job frame. Definitions only. Assumes nothing.
 use Prim.Native.Nat.{ℕ}
 use mathlib.Core.Path.{_≡_}
-use mathlib.Core.List.{List}
+use mathlib.Core.List.{List, flatMap}
 use mathlib.Core.Option.{Option, some, none}
-use lib.ListN.{length, getD, replicate}
-use Rattle.loops.specs.Loop.{tabulate}
-use Rattle.optimum.specs.Optimum.{Answer}
+use lib.ListN.{length, replicate}
+use Rattle.optimum.specs.Optimum.{both, Answer}
 use Rattle.frame.specs.Questions.{jobOf, refusal}
-use Rattle.frame.specs.Answers.{noPair, answerFrame, readAnswer, judgeAnswer}
-use Rattle.frame.specs.AnswerMeaning.{Certified}
-use Rattle.answer_read.specs.Reading.{answerIn}
+use Rattle.frame.specs.AnswerMeaning.{answerFrame, Certified}
+use Rattle.frame.specs.Answers.{readAnswer, judgeAnswer}
+use Rattle.codec.specs.Numbers.{numbersAt}
+use Rattle.codec.specs.Held.{answerAt}
 use Rattle.judging.specs.declared.Verdict.{Verdict}
 use Rattle.judging.specs.declared.Verdict.the-variants.{Yes, No, Refused}
 use Rattle.judging.specs.Verdicts.{verdict, AnswerJudged}
@@ -17,18 +17,17 @@ use Rattle.reading.specs.declared.AnswerRead.{AnswerRead}
 
 -- Nothing but a verdict.
 abbrev pub unread : Verdict → AnswerRead
-unread v = record { verdict = v; steps = 0; costs = replicate 256 0; count = 0; trees = replicate 64 0; spares = replicate 64 0 }
+unread v = record { verdict = v; steps = 0; costs = replicate 256 0; count = 0; pairs = replicate 128 0 }
 
--- An answer in arrays, zeros behind its last cost and behind its last pair.
+-- An answer in arrays, tree link and spare link of its pairs by turns, zeros behind its last cost and behind its last pair.
 abbrev pub answerRead : Answer → AnswerRead
 answerRead a =
     record {
       verdict = Yes;
       steps = a .steps;
-      costs = tabulate 256 (λ e. getD (a .costs) e 0);
+      costs = numbersAt 256 (a .costs);
       count = length (a .pairs);
-      trees = tabulate 64 (λ i. getD (a .pairs) i noPair .tree);
-      spares = tabulate 64 (λ i. getD (a .pairs) i noPair .spare);
+      pairs = numbersAt 128 (flatMap both (a .pairs));
     }
 
 -- What the frame holds, if the verdict on it is yes; else the verdict alone.
@@ -40,7 +39,7 @@ readOf (Refused n) o = unread (Refused n)
 
 -- The answer to a job of m links that was read.
 abbrev pub answerOfRead : ℕ → AnswerRead → Answer
-answerOfRead m r = answerIn m (r .steps) (r .count) (r .costs) (r .trees) (r .spares)
+answerOfRead m r = answerAt (r .steps) m (r .costs) (r .count) (r .pairs)
 
 -- What is read of the frame f, offered as an answer to the job frame s: the verdict is the judge's; of a frame that is judged
 -- yes its contents are read, they prove themselves best, and written as a frame they are f.

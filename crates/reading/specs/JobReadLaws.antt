@@ -8,24 +8,24 @@ use lib.ListN.{length, getD, set, take, replicate, List·getD-map}
 use lib.Seq.{ext-getD}
 use Rattle.loops.specs.Loop.{tabulate}
 use Rattle.loops.specs.GatherLaws.{length-tabulate, getD-tabulate}
-use Rattle.leb128.specs.Number.{Bytes}
-use Rattle.frame.specs.Job.{Edge, Job, noEdge, link, jobFrame}
+use Rattle.number.specs.Number.{Bytes}
+use Rattle.frame.specs.Job.{JobLink, Job, noLink, link, jobFrame}
 use Rattle.frame.specs.Questions.{jobOf, refusal}
 use Rattle.frame.specs.Form.{first-no}
 use Rattle.frame.specs.Accepted.{accepted, write-read6}
 use Rattle.records.specs.declared.Link.{Link}
-use Rattle.records.specs.Records.{zeroLink, firsts, copied}
+use Rattle.records.specs.Records.{zeroLink, firstLinks, copied}
 use Rattle.records.specs.RecordsLaws.{copied-none, copied-more, copied-all, firsts-length, firsts-at}
 use Rattle.accept.specs.Accepting.{Held}
-use Rattle.accept.specs.ListJobs.{edgeOf}
+use Rattle.accept.specs.ListJobs.{jobLink}
 use Rattle.reading.specs.JobsRead.{linkOf, gathered, refusedRead, givenOf, jobIn, JobGiven}
 use Rattle.reading.specs.declared.JobRead.{JobRead}
 
 -- ---- gathering
 
 -- As many links as are asked for.
-whole : (n : ℕ) (ys : List Link) → length ys ≡ n → firsts n ys ≡ ys
-whole n ys l = ext-getD zeroLink (firsts n ys) ys (firsts-length n ys ∙ sym l) λ e k. firsts-at n ys e (omega (arith, firsts-length n ys))
+whole : (n : ℕ) (ys : List Link) → length ys ≡ n → firstLinks n ys ≡ ys
+whole n ys l = ext-getD zeroLink (firstLinks n ys) ys (firsts-length n ys ∙ sym l) λ e k. firsts-at n ys e (omega (arith, firsts-length n ys))
 
 module _ (n : ℕ) (as₁ as₂ as₃ as₄ : List ℕ) where
   row : ℕ → Link
@@ -65,21 +65,21 @@ module _ (n : ℕ) (as₁ as₂ as₃ as₄ : List ℕ) where
 
 -- Arrays that hold a job, gathered, are its links as records.
 pub gathered-held :
-    (n : ℕ) (j : Job) (as₁ as₂ as₃ as₄ ts mask : List ℕ) → Held j as₁ as₂ as₃ as₄ ts mask → gathered n as₁ as₂ as₃ as₄ ≡ firsts n (map linkOf (j .links))
+    (n : ℕ) (j : Job) (as₁ as₂ as₃ as₄ ts mask : List ℕ) → Held j as₁ as₂ as₃ as₄ ts mask → gathered n as₁ as₂ as₃ as₄ ≡ firstLinks n (map linkOf (j .links))
 gathered-held n j as₁ as₂ as₃ as₄ ts mask h =
     let ls = j .links in
     let f : ℕ → Link = λ e. linkOf (link j e) in
     (λ i. tabulate n λ e. record { end1 = h .end₁ i e; end2 = h .end₂ i e; cost = h .cost i e; mark = h .mark i e }) ∙
-    ext-getD zeroLink (tabulate n f) (firsts n (map linkOf ls)) (length-tabulate f n ∙ sym (firsts-length n (map linkOf ls)))
+    ext-getD zeroLink (tabulate n f) (firstLinks n (map linkOf ls)) (length-tabulate f n ∙ sym (firsts-length n (map linkOf ls)))
     λ e l. let k : e < n = omega (arith, length-tabulate f n) in
-    getD-tabulate f n e zeroLink k ∙ sym (firsts-at n (map linkOf ls) e k ∙ List·getD-map linkOf ls e noEdge)
+    getD-tabulate f n e zeroLink k ∙ sym (firsts-at n (map linkOf ls) e k ∙ List·getD-map linkOf ls e noLink)
 
 -- The links that were read, as the job's.
-taken-back : (n : ℕ) (ls : List Edge) → length ls ≤ n → map edgeOf (take (length ls) (firsts n (map linkOf ls))) ≡ ls
-unfolding firsts
+taken-back : (n : ℕ) (ls : List JobLink) → length ls ≤ n → map jobLink (take (length ls) (firstLinks n (map linkOf ls))) ≡ ls
+unfolding firstLinks
 taken-back n [] h = refl
 taken-back zero (l ∷ ls) h = absurd (omega arith)
-taken-back (suc n) (l ∷ ls) h = rw (suc-sub-suc n (length (map linkOf ls))) (ap {B = List Edge} (λ r. l ∷ r) (taken-back n ls (omega arith)))
+taken-back (suc n) (l ∷ ls) h = rw (suc-sub-suc n (length (map linkOf ls))) (ap {B = List JobLink} (λ r. l ∷ r) (taken-back n ls (omega arith)))
 
 given-back : (j : Job) → length (j .links) ≤ 256 → jobIn (givenOf 0 j) ≡ j
 unfolding givenOf
@@ -97,7 +97,7 @@ pub given-job :
     r ≡ 0 →
     n ≡ j .nodes →
     m ≡ length (j .links) →
-    links ≡ firsts 256 (map linkOf (j .links)) →
+    links ≡ firstLinks 256 (map linkOf (j .links)) →
     record { refusal = 0; nodes = n; count = m; links = links } ≡ givenOf r j
 unfolding givenOf
 given-job r n m links j z pn pm pl =

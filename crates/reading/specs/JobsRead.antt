@@ -4,16 +4,16 @@ use mathlib.Core.Path.{_≡_}
 use mathlib.Core.List.{List, map}
 use lib.ListN.{length, getD, take, replicate}
 use Rattle.loops.specs.Loop.{tabulate}
-use Rattle.frame.specs.Job.{Edge, Job, jobFrame}
+use Rattle.frame.specs.Job.{JobLink, Job, jobFrame}
 use Rattle.frame.specs.Questions.{jobOf, refusal}
 use Rattle.frame.specs.Meaning.{FirstNo}
 use Rattle.records.specs.declared.Link.{Link}
-use Rattle.records.specs.Records.{zeroLink, firsts}
+use Rattle.records.specs.Records.{zeroLink, firstLinks}
 use Rattle.accept.specs.ListJobs.{listJob}
 use Rattle.reading.specs.declared.JobRead.{JobRead}
 
 -- A job's link as a record.
-abbrev pub linkOf : Edge → Link
+abbrev pub linkOf : JobLink → Link
 linkOf l = record { end1 = l .end₁; end2 = l .end₂; cost = l .cost; mark = l .mark }
 
 -- The first n links of four arrays.
@@ -28,7 +28,7 @@ refusedRead r = record { refusal = r; nodes = 0; count = 0; links = replicate 25
 
 -- The refusal, where there is one; else the job, zeros behind its last link.
 unfoldable pub givenOf : ℕ → Job → JobRead
-givenOf zero j = record { refusal = 0; nodes = j .nodes; count = length (j .links); links = firsts 256 (map linkOf (j .links)) }
+givenOf zero j = record { refusal = 0; nodes = j .nodes; count = length (j .links); links = firstLinks 256 (map linkOf (j .links)) }
 givenOf (suc r) j = refusedRead (suc r)
 
 -- The job that was read.

@@ -16,7 +16,7 @@ use records::Link;
 pub struct JobRead {
     pub refusal: u32,
     pub nodes: u32,
-    pub count: u32,
+    pub count: usize,
     pub links: [Link; 256],
 }
 
@@ -86,20 +86,19 @@ pub fn read_job(frame: &[u8]) -> JobRead
     JobRead {
         refusal: 0,
         nodes: header.nodes,
-        count: header.edges,
+        count: header.edges as usize,
         links: gather(&end1, &end2, &cost, &mark),
     }
 }
 
-// An answer read from a frame: the verdict on it; if that is yes, the steps, the new cost of each link, and so many pairs of
-// links, zeros behind the last.
+// An answer read from a frame: the verdict on it; if that is yes, the steps, the new cost of each link, and so many pairs, tree
+// link and spare link by turns; zeros behind the last.
 pub struct AnswerRead {
     pub verdict: Verdict,
     pub steps: u32,
     pub costs: [u32; 256],
     pub count: usize,
-    pub trees: [u32; 64],
-    pub spares: [u32; 64],
+    pub pairs: [u32; 128],
 }
 
 // What is read of a frame that is not judged yes: the verdict, and nothing else.
@@ -111,8 +110,7 @@ fn not_read(verdict: Verdict) -> AnswerRead
         steps: 0,
         costs: [0u32; 256],
         count: 0,
-        trees: [0u32; 64],
-        spares: [0u32; 64],
+        pairs: [0u32; 128],
     }
 }
 
@@ -122,16 +120,14 @@ fn read_contents(offered: &[u8], edges: usize) -> AnswerRead
     ensures { λ r. ⌜ ((a : Answer) → readAnswer edges (now (offered .entry)) ≡ some a → length (a .pairs) ≤ 64 → r ≡ answerRead a) ⌝ }
 {
     let mut costs = [0u32; 256];
-    let mut trees = [0u32; 64];
-    let mut spares = [0u32; 64];
-    let found = answer_read::read_answer(offered, edges, &mut costs, &mut trees, &mut spares);
+    let mut pairs = [0u32; 128];
+    let found = answer_read::load_answer(offered, edges, &mut costs, &mut pairs);
     AnswerRead {
         verdict: Verdict::Yes,
         steps: found.steps,
         costs: costs,
         count: found.count,
-        trees: trees,
-        spares: spares,
+        pairs: pairs,
     }
 }
 

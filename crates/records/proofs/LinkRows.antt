@@ -90,21 +90,29 @@ module _ {M : Type 1} (𝓤 : URA M) (H : Heap 𝓤) (A : Atoms 𝓤) (W : Given
   zeros-apart l =
       qed W (‵ (fat fullShare (tyArray T′.mir n) l 0 (zeros n)) ∷ []) ∵
       use1 W (‵ (cellAt fullShare (Array R n .mir) (zeros n ∷ []) l 0)) (W .laws .at-raw fullShare (tyArray T′.mir n) l 0 (zeros n)) $
-      owned ! (Array R n) (Is (Array R n)) (array-makes 𝓤 H A W R (LL.makes T.the-type T′.the-plain 𝓤 H A) n) (replicate n zeroLink) _ (zeros-is n) $ move ! (1 ∷ 0 ∷ []) $ fjoin ! $
+      owned ! (Array R n) (Is (Array R n)) (array-makes 𝓤 H A W R (LL.makes T.the-type T′.the-plain 𝓤 H A) n) (replicate n zeroLink) _ (zeros-is n) $ move !
+      (1 ∷ 0 ∷ []) $ fjoin ! $
       fpack ! (List Val) (λ vs. fsep (cellAt fullShare (Array R n .mir) vs l 0) (Array R n .own (replicate n zeroLink) vs)) (zeros n ∷ []) $
-      use1 W (‵ (arr-parts (shares R) n .part fullShare (replicate n zeroLink) l 0)) (array-apart 𝓤 H A W R fullShare tt n (replicate n zeroLink) l 0) $ fsplit ! $ drop ! $ done !
+      use1 W (‵ (arr-parts (shares R) n .part fullShare (replicate n zeroLink) l 0))
+      (array-apart 𝓤 H A W R fullShare tt n (replicate n zeroLink) l 0) $ fsplit ! $ drop ! $ done !
 
   -- the machine value of the links xs
   abbrev pub held : List Link → Val
   held xs = only (array-vals (LL.vals T.the-type T′.the-laws) xs)
 
-  pub whole : (xs : List Link) (l : ℕ) → length xs ≡ n → ent 𝓤 (sem 𝓤 H A (row R fullShare xs l 0)) (sep 𝓤 (H .at fullShare (tyArray T′.mir n) l 0 (held xs)) (sem 𝓤 H A (Array R n .own xs (held xs ∷ []))))
+  pub whole :
+      (xs : List Link) (l : ℕ) →
+      length xs ≡ n →
+      ent 𝓤 (sem 𝓤 H A (row R fullShare xs l 0)) (sep 𝓤 (H .at fullShare (tyArray T′.mir n) l 0 (held xs)) (sem 𝓤 H A (Array R n .own xs (held xs ∷ []))))
   unfolding partOf
   whole xs l e =
-      qed W (‵ (row R fullShare xs l 0) ∷ []) ∵ feqI ! ℕ (length xs) n e $ fjoin ! $ use1 W (‵ (partAt (Array R n) fullShare xs l 0)) (array-whole 𝓤 H A W R fullShare n xs l 0) $ fpick ! (λ vs. fsplit ! $
+      qed W (‵ (row R fullShare xs l 0) ∷ []) ∵ feqI ! ℕ (length xs) n e $ fjoin ! $ use1 W (‵ (partAt (Array R n) fullShare xs l 0))
+      (array-whole 𝓤 H A W R fullShare n xs l 0) $ fpick ! (λ vs. fsplit ! $
       move ! (1 ∷ []) $ peeks ! (Array R n) (Is (Array R n)) (shows 𝓤 H A (Array R n)) xs vs (λ is.
-      rewrite ! 0 (λ (us : List Val). ‵ (Array R n .own xs us)) (told vs is) refl $ rewrite ! 1 (λ (us : List Val). ‵ (cellAt fullShare (Array R n .mir) us l 0)) (told vs is) refl $
-      move ! (1 ∷ []) $ use1 W (‵ (fat fullShare (tyArray T′.mir n) l 0 (held xs))) (W .laws .raw-at fullShare (tyArray T′.mir n) l 0 (held xs)) $ frame ! $ done !))
+      rewrite ! 0 (λ (us : List Val). ‵ (Array R n .own xs us)) (told vs is) refl $ rewrite ! 1
+      (λ (us : List Val). ‵ (cellAt fullShare (Array R n .mir) us l 0)) (told vs is) refl $
+      move ! (1 ∷ []) $ use1 W (‵ (fat fullShare (tyArray T′.mir n) l 0 (held xs)))
+      (W .laws .raw-at fullShare (tyArray T′.mir n) l 0 (held xs)) $ frame ! $ done !))
     where
       told : (vs : List Val) → Is (Array R n) xs vs → vs ≡ held xs ∷ []
       told vs is = array-tells R (LL.vals T.the-type T′.the-laws) (LL.tells T.the-type T′.the-laws) n xs vs is
@@ -120,7 +128,8 @@ module _ {M : Type 1} {𝓤 : URA M} {H : Heap 𝓤} {A : Atoms 𝓤} (W : Given
 
   asks : n < 2 ^ 64 → most < 2 ^ 64 → ent 𝓤 (emp 𝓤) (AtMost 𝓤 H A mem run .pre to)
   asks g h =
-      qed W [] ∵ nothing ! $ nothing ! $ owned ! usize (Is usize) (uint-makes 𝓤 H A W w64) most _ (refl, h) $ fjoin ! $ owned ! usize (Is usize) (uint-makes 𝓤 H A W w64) n _ (refl, g) $ fjoin ! $ nothing ! $ join ! $ done !
+      qed W [] ∵ nothing ! $ nothing ! $ owned ! usize (Is usize) (uint-makes 𝓤 H A W w64) most _ (refl, h) $ fjoin ! $ owned ! usize (Is usize)
+      (uint-makes 𝓤 H A W w64) n _ (refl, g) $ fjoin ! $ nothing ! $ join ! $ done !
 
   said : (r : ℕ) → ent 𝓤 (ensured 𝓤 H A at-most.ended (at-most.clauses 𝓤 H A mem run) tt (n, (most, tt)) tt r) (fact 𝓤 (r ≡ min n most))
   said r = exE 𝓤 _ (λ ws. snd∗ 𝓤 (sem 𝓤 H A (lasts at-most.ended tt (n, (most, tt)) ws)) (fact 𝓤 (r ≡ min n most)))
@@ -133,33 +142,36 @@ module _ {M : Type 1} {𝓤 : URA M} {H : Heap 𝓤} {A : Atoms 𝓤} (W : Given
   counts 𝓣 known g h {Γ} {E} {xs} {d} {rest} {q} os k =
       use0 W (raw (AtMost 𝓤 H A mem run .pre to)) (asks g h) $
       calls-at ! (fmOf 𝓤 H (W .laws) 𝓣) (AtMost 𝓤 H A mem run) known to os (λ u.
-      use1 W (later (some (λ (r : ℕ). (‵ ftrue ⊛ ‵ (usize .own r (u ∷ []))) ⊛ raw (ensured 𝓤 H A at-most.ended (at-most.clauses 𝓤 H A mem run) tt (n, (most, tt)) tt r)))) (id⊢ 𝓤 _) $ await ! tt $ pick ! (λ r.
+      use1 W (later (some (λ (r : ℕ). (‵ ftrue ⊛ ‵ (usize .own r (u ∷ []))) ⊛ raw
+      (ensured 𝓤 H A at-most.ended (at-most.clauses 𝓤 H A mem run) tt (n, (most, tt)) tt r)))) (id⊢ 𝓤 _) $ await ! tt $ pick ! (λ r.
       split ! $ move ! (1 ∷ []) $ use1 W (raw (fact 𝓤 (r ≡ min n most))) (said r) $ heard ! (r ≡ min n most) (λ which. split ! $ drop ! $
-      peeks ! usize (Is usize) (shows 𝓤 H A usize) r (u ∷ []) (λ told. drop ! $ subst (λ (w : Val). Sq W Γ (lands (𝓣 .C) (𝓣 .Λ) E d w rest q)) (sym (ap only (uint-tells w64 r _ told))) (k r which (told .1))))))
+      peeks ! usize (Is usize) (shows 𝓤 H A usize) r (u ∷ [])
+      (λ told. drop ! $ subst (λ (w : Val). Sq W Γ (lands (𝓣 .C) (𝓣 .Λ) E d w rest q)) (sym (ap only (uint-tells w64 r _ told))) (k r which (told .1))))))
 
 module _ {M : Type 1} {𝓤 : URA M} {H : Heap 𝓤} {A : Atoms 𝓤} {K : Type 0} {W : Given 𝓤 H A} {Γ : List (Item 𝓤)} {E : Env 𝓤 H} where
   pub big-lit : K → {w : Width} {n : ℕ} → n < 2 ^ bits w → Opd K W Γ E (intBig w n) (vint w n)
   big-lit t {w} {n} z = record { go = λ Kt h. via 𝓤 (Kt (vint w n)) h (guardI 𝓤 (Fits w n) (Kt (vint w n)) record { fits = z }) }
 
 -- the local at position k, with what frees it behind it
-module _ {M : Type 1} {𝓤 : URA M} {H : Heap 𝓤} {A : Atoms 𝓤} {K : Type 0} {W : Given 𝓤 H A} {Γ : List (Item 𝓤)} {τ : Ty} {b : ℕ} {E : Env 𝓤 H} {g : Goal 𝓤 H} where
-  freed : (k : ℕ) (i : Item 𝓤) → ent 𝓤 (mean 𝓤 H A i) (H .room τ b 0) → nth 𝓤 H A k Γ ≡ i → nth 𝓤 H A k (del 𝓤 H A k Γ) ≡ ‵ (fdies τ b)
-      → Step K W (del 𝓤 H A k (del 𝓤 H A k Γ)) (frees E g) Γ (frees ((τ, b) ∷ E) g)
-  freed k i room e d = step (λ s. record {
-    prf = via 𝓤 (sep 𝓤 (mean 𝓤 H A i) (⋆ 𝓤 H A rest)) (subst (λ (j : Item 𝓤). ent 𝓤 (⋆ 𝓤 H A Γ) (sep 𝓤 (mean 𝓤 H A j) (⋆ 𝓤 H A rest))) e (pull 𝓤 H A k Γ))
-        (via 𝓤 (sep 𝓤 (H .room τ b 0) (sep 𝓤 (H .dies τ b) (⋆ 𝓤 H A (del 𝓤 H A k rest))))
-        (mono∗ 𝓤 room (subst (λ (j : Item 𝓤). ent 𝓤 (⋆ 𝓤 H A rest) (sep 𝓤 (mean 𝓤 H A j) (⋆ 𝓤 H A (del 𝓤 H A k rest)))) d (pull 𝓤 H A k rest)))
-        (via 𝓤 (sep 𝓤 (sep 𝓤 (H .room τ b 0) (H .dies τ b)) (⋆ 𝓤 H A (del 𝓤 H A k rest))) (assoc′ 𝓤 (H .room τ b 0) (H .dies τ b) (⋆ 𝓤 H A (del 𝓤 H A k rest)))
-        (monoR 𝓤 (sep 𝓤 (H .room τ b 0) (H .dies τ b)) (s .prf))));
-  })
-    where
-      rest : List (Item 𝓤)
-      rest = del 𝓤 H A k Γ
+module _ {M : Type 1} {𝓤 : URA M} {H : Heap 𝓤} {A : Atoms 𝓤} {K : Type 0} {W : Given 𝓤 H A} {Γ : List (Item 𝓤)} {τ : Ty} {b : ℕ} {E : Env 𝓤 H} {g : Goal 𝓤 H}
+  where
+    freed : (k : ℕ) (i : Item 𝓤) → ent 𝓤 (mean 𝓤 H A i) (H .room τ b 0) → nth 𝓤 H A k Γ ≡ i → nth 𝓤 H A k (del 𝓤 H A k Γ) ≡ ‵ (fdies τ b)
+        → Step K W (del 𝓤 H A k (del 𝓤 H A k Γ)) (frees E g) Γ (frees ((τ, b) ∷ E) g)
+    freed k i room e d = step (λ s. record {
+      prf = via 𝓤 (sep 𝓤 (mean 𝓤 H A i) (⋆ 𝓤 H A rest)) (subst (λ (j : Item 𝓤). ent 𝓤 (⋆ 𝓤 H A Γ) (sep 𝓤 (mean 𝓤 H A j) (⋆ 𝓤 H A rest))) e (pull 𝓤 H A k Γ))
+          (via 𝓤 (sep 𝓤 (H .room τ b 0) (sep 𝓤 (H .dies τ b) (⋆ 𝓤 H A (del 𝓤 H A k rest))))
+          (mono∗ 𝓤 room (subst (λ (j : Item 𝓤). ent 𝓤 (⋆ 𝓤 H A rest) (sep 𝓤 (mean 𝓤 H A j) (⋆ 𝓤 H A (del 𝓤 H A k rest)))) d (pull 𝓤 H A k rest)))
+          (via 𝓤 (sep 𝓤 (sep 𝓤 (H .room τ b 0) (H .dies τ b)) (⋆ 𝓤 H A (del 𝓤 H A k rest))) (assoc′ 𝓤 (H .room τ b 0) (H .dies τ b) (⋆ 𝓤 H A (del 𝓤 H A k rest)))
+          (monoR 𝓤 (sep 𝓤 (H .room τ b 0) (H .dies τ b)) (s .prf))));
+    })
+      where
+        rest : List (Item 𝓤)
+        rest = del 𝓤 H A k Γ
 
-  pub gone : K → (k : ℕ) {v : Val} → nth 𝓤 H A k Γ ≡ ‵ (fat fullShare τ b 0 v) → nth 𝓤 H A k (del 𝓤 H A k Γ) ≡ ‵ (fdies τ b)
-      → Step K W (del 𝓤 H A k (del 𝓤 H A k Γ)) (frees E g) Γ (frees ((τ, b) ∷ E) g)
-  gone t k {v} e d = freed k (‵ (fat fullShare τ b 0 v)) (W .laws .at-room τ b 0 v) e d
+    pub gone : K → (k : ℕ) {v : Val} → nth 𝓤 H A k Γ ≡ ‵ (fat fullShare τ b 0 v) → nth 𝓤 H A k (del 𝓤 H A k Γ) ≡ ‵ (fdies τ b)
+        → Step K W (del 𝓤 H A k (del 𝓤 H A k Γ)) (frees E g) Γ (frees ((τ, b) ∷ E) g)
+    gone t k {v} e d = freed k (‵ (fat fullShare τ b 0 v)) (W .laws .at-room τ b 0 v) e d
 
-  pub gone-room : K → (k : ℕ) → nth 𝓤 H A k Γ ≡ ‵ (froom τ b 0) → nth 𝓤 H A k (del 𝓤 H A k Γ) ≡ ‵ (fdies τ b)
-      → Step K W (del 𝓤 H A k (del 𝓤 H A k Γ)) (frees E g) Γ (frees ((τ, b) ∷ E) g)
-  gone-room t k e d = freed k (‵ (froom τ b 0)) (id⊢ 𝓤 (H .room τ b 0)) e d
+    pub gone-room : K → (k : ℕ) → nth 𝓤 H A k Γ ≡ ‵ (froom τ b 0) → nth 𝓤 H A k (del 𝓤 H A k Γ) ≡ ‵ (fdies τ b)
+        → Step K W (del 𝓤 H A k (del 𝓤 H A k Γ)) (frees E g) Γ (frees ((τ, b) ∷ E) g)
+    gone-room t k e d = freed k (‵ (froom τ b 0)) (id⊢ 𝓤 (H .room τ b 0)) e d

@@ -1,31 +1,32 @@
 -- Links lent as a list of records: the first ones with zeros behind the last, and whether every number is small.
 -- Definitions only. Assumes nothing.
-use Prim.Native.Nat.{ℕ, _-_, min}
+use Prim.Native.Nat.{ℕ, _+_, _-_, min}
 use mathlib.Core.Bool.{Bool, _&&_}
 use mathlib.Core.List.{List, _++_, map}
 use lib.ListN.{length, getD, take, drop, replicate}
 use lib.Dec.{leb}
-use Rattle.loops.specs.Loop.{allBelow}
+use Rattle.limits.specs.Limits.{maxNumber}
+use Rattle.loops.specs.Below.{allBelow}
 use Rattle.records.specs.declared.Link.{Link}
 
 abbrev pub zeroLink : Link
 zeroLink = record { end1 = 0; end2 = 0; cost = 0; mark = 0 }
 
 -- The first n links of a list, zeros behind the last.
-unfoldable pub firsts : ℕ → List Link → List Link
-firsts n ys = take n ys ++ replicate (n - length ys) zeroLink
+unfoldable pub firstLinks : ℕ → List Link → List Link
+firstLinks n ys = take n ys ++ replicate (n - length ys) zeroLink
 
 -- An array of n zeros into which the first i links of a list were put.
 unfoldable pub copied : ℕ → ℕ → List Link → List Link
 copied n i ys = take i ys ++ replicate (n - i) zeroLink
 
 -- A list of numbers of which the first i were replaced by one number of each of the first i links.
-unfoldable pub filled : (Link → ℕ) → ℕ → List Link → List ℕ → List ℕ
-filled f i ys old = take i (map f ys) ++ drop i old
+unfoldable pub columnPut : (Link → ℕ) → ℕ → List Link → List ℕ → List ℕ
+columnPut f i ys old = take i (map f ys) ++ drop i old
 
 -- No number of a link is above 16,383 (question 1).
 abbrev pub smallLink : Link → Bool
-smallLink l = leb (l .end1) 16383 && leb (l .end2) 16383 && leb (l .cost) 16383 && leb (l .mark) 16383
+smallLink l = leb (l .end1) maxNumber && leb (l .end2) maxNumber && leb (l .cost) maxNumber && leb (l .mark) maxNumber
 
 -- No number of the first n links of a list is.
 abbrev pub smallTo : ℕ → List Link → Bool
@@ -34,4 +35,4 @@ smallTo n ys = allBelow n λ e. smallLink (getD ys e zeroLink)
 -- No number of the first 16,384 links of a list is, or of all its links if it has fewer: a list longer than 16,383 is refused
 -- whatever it holds, so its links beyond are not looked at.
 abbrev pub allSmall : List Link → Bool
-allSmall ys = smallTo (min (length ys) 16384) ys
+allSmall ys = smallTo (min (length ys) (maxNumber + 1)) ys

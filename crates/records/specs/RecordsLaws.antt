@@ -9,9 +9,10 @@ use mathlib.Core.List.{List, [], _∷_}
 use lib.ListN.{length, getD, set, take, replicate, length-replicate, getD-replicate}
 use lib.Dec.{leb}
 use borrow.Author.Tests.{le-leb, lt-leb}
-use Rattle.loops.specs.Loop.{allBelow}
+use Rattle.limits.specs.Limits.{maxNumber}
+use Rattle.loops.specs.Below.{allBelow}
 use Rattle.records.specs.declared.Link.{Link}
-use Rattle.records.specs.Records.{zeroLink, firsts, copied, filled, smallLink, smallTo, allSmall}
+use Rattle.records.specs.Records.{zeroLink, firstLinks, copied, columnPut, smallLink, smallTo, allSmall}
 
 -- No link yet, one more, and as many as the list and the array allow.
 pub copied-none : (n : ℕ) (ys : List Link) → copied n 0 ys ≡ replicate n zeroLink
@@ -33,11 +34,12 @@ more (suc n) (suc i) (y ∷ ys) l k =
 pub copied-more : (n i : ℕ) (ys : List Link) → i < n → i < length ys → set (copied n i ys) i (getD ys i zeroLink) ≡ copied n (i + 1) ys
 copied-more n i ys l k = more n i ys l k ∙ ap (λ (j : ℕ). copied n j ys) (sym (one-more i))
 
-pub copied-all : (n : ℕ) (ys : List Link) → copied n (min (length ys) n) ys ≡ firsts n ys
-unfolding copied firsts
+pub copied-all : (n : ℕ) (ys : List Link) → copied n (min (length ys) n) ys ≡ firstLinks n ys
+unfolding copied firstLinks
 copied-all zero ys = rw (min-zero (length ys), zero-sub (length ys)) refl
 copied-all (suc n) [] = rw (zero-min (suc n)) refl
-copied-all (suc n) (y ∷ ys) = rw (suc-min-suc (length ys) n, suc-sub-suc n (length ys), suc-sub-suc n (min (length ys) n)) (ap {B = List Link} (λ r. y ∷ r) (copied-all n ys))
+copied-all (suc n) (y ∷ ys) =
+    rw (suc-min-suc (length ys) n, suc-sub-suc n (length ys), suc-sub-suc n (min (length ys) n)) (ap {B = List Link} (λ r. y ∷ r) (copied-all n ys))
 
 pub copied-length : (n i : ℕ) (ys : List Link) → i ≤ n → i ≤ length ys → length (copied n i ys) ≡ n
 unfolding copied
@@ -47,63 +49,75 @@ copied-length zero (suc i) (y ∷ ys) l k = absurd (omega arith)
 copied-length (suc n) (suc i) (y ∷ ys) l k = rw (suc-sub-suc n i) (ap suc (copied-length n i ys (omega arith) (omega arith)))
 
 -- The copy has n links: those of the list as far as it goes, then zeros.
-pub firsts-length : (n : ℕ) (ys : List Link) → length (firsts n ys) ≡ n
-unfolding firsts
+pub firsts-length : (n : ℕ) (ys : List Link) → length (firstLinks n ys) ≡ n
+unfolding firstLinks
 firsts-length zero ys = rw (zero-sub (length ys)) refl
 firsts-length (suc n) [] = rw (sub-zero (suc n)) (ap suc (length-replicate n zeroLink))
 firsts-length (suc n) (y ∷ ys) = rw (suc-sub-suc n (length ys)) (ap suc (firsts-length n ys))
 
-pub firsts-at : (n : ℕ) (ys : List Link) (e : ℕ) → e < n → getD (firsts n ys) e zeroLink ≡ getD ys e zeroLink
-unfolding firsts
+pub firsts-at : (n : ℕ) (ys : List Link) (e : ℕ) → e < n → getD (firstLinks n ys) e zeroLink ≡ getD ys e zeroLink
+unfolding firstLinks
 firsts-at zero ys e l = absurd (omega arith)
 firsts-at (suc n) [] e l = rw (sub-zero (suc n)) (getD-replicate (suc n) e zeroLink zeroLink l)
 firsts-at (suc n) (y ∷ ys) zero l = refl
 firsts-at (suc n) (y ∷ ys) (suc e) l = rw (suc-sub-suc n (length ys)) (firsts-at n ys e (omega arith))
 
 -- A list that the copy holds whole.
-pub firsts-take : (n : ℕ) (ys : List Link) → length ys ≤ n → take (length ys) (firsts n ys) ≡ ys
-unfolding firsts
+pub firsts-take : (n : ℕ) (ys : List Link) → length ys ≤ n → take (length ys) (firstLinks n ys) ≡ ys
+unfolding firstLinks
 firsts-take n [] h = refl
 firsts-take zero (y ∷ ys) h = absurd (omega arith)
 firsts-take (suc n) (y ∷ ys) h = rw (suc-sub-suc n (length ys)) (ap {B = List Link} (λ r. y ∷ r) (firsts-take n ys (omega arith)))
 
 -- One number of each of the first links, put into a list of numbers: none yet, one more, and what it then holds.
-pub filled-none : (f : Link → ℕ) (ys : List Link) (old : List ℕ) → old ≡ filled f 0 ys old
-unfolding filled
+pub filled-none : (f : Link → ℕ) (ys : List Link) (old : List ℕ) → old ≡ columnPut f 0 ys old
+unfolding columnPut
 filled-none f ys old = refl
 
 more-filled :
-    (f : Link → ℕ) (i : ℕ) (ys : List Link) (old : List ℕ) → i < length ys → i < length old → set (filled f i ys old) i (f (getD ys i zeroLink)) ≡ filled f (suc i) ys old
-unfolding filled
+    (f : Link → ℕ) (i : ℕ) (ys : List Link) (old : List ℕ) → i < length ys → i < length old → set (columnPut f i ys old) i
+    (f (getD ys i zeroLink)) ≡ columnPut f (suc i) ys old
+unfolding columnPut
 more-filled f i [] old l k = absurd (omega arith)
 more-filled f i (y ∷ ys) [] l k = absurd (omega arith)
 more-filled f zero (y ∷ ys) (x ∷ old) l k = refl
 more-filled f (suc i) (y ∷ ys) (x ∷ old) l k = ap {B = List ℕ} (λ r. f y ∷ r) (more-filled f i ys old (omega arith) (omega arith))
 
 pub filled-more :
-    (f : Link → ℕ) (n i : ℕ) (ys : List Link) (old now : List ℕ) → length ys ≡ n → length old ≡ n → now ≡ filled f i ys old → i < n → set now i (f (getD ys i zeroLink)) ≡ filled f (i + 1) ys old
+    (f : Link → ℕ) (n i : ℕ) (ys : List Link) (old now : List ℕ) → length ys ≡ n → length old ≡ n → now ≡ columnPut f i ys old → i < n → set now i
+    (f (getD ys i zeroLink)) ≡ columnPut f (i + 1) ys old
 filled-more f n i ys old now l k so h =
     ap (λ (r : List ℕ). set r i (f (getD ys i zeroLink))) so ∙
     more-filled f i ys old (omega (arith, l)) (omega (arith, k)) ∙
-    ap (λ (j : ℕ). filled f j ys old) (sym (one-more i))
+    ap (λ (j : ℕ). columnPut f j ys old) (sym (one-more i))
 
-pub filled-length : (f : Link → ℕ) (n : ℕ) (ys : List Link) (old : List ℕ) → n ≤ length ys → n ≤ length old → length (filled f n ys old) ≡ length old
-unfolding filled
+pub filled-length : (f : Link → ℕ) (n : ℕ) (ys : List Link) (old : List ℕ) → n ≤ length ys → n ≤ length old → length (columnPut f n ys old) ≡ length old
+unfolding columnPut
 filled-length f zero ys old l k = refl
 filled-length f (suc n) [] old l k = absurd (omega arith)
 filled-length f (suc n) (y ∷ ys) [] l k = absurd (omega arith)
 filled-length f (suc n) (y ∷ ys) (x ∷ old) l k = ap suc (filled-length f n ys old (omega arith) (omega arith))
 
-pub filled-at : (f : Link → ℕ) (n : ℕ) (ys : List Link) (old : List ℕ) (e : ℕ) → n ≤ length ys → n ≤ length old → e < n → getD (filled f n ys old) e 0 ≡ f (getD ys e zeroLink)
-unfolding filled
+pub filled-at :
+    (f : Link → ℕ) (n : ℕ) (ys : List Link) (old : List ℕ) (e : ℕ) →
+    n ≤ length ys →
+    n ≤ length old →
+    e < n →
+    getD (columnPut f n ys old) e 0 ≡ f (getD ys e zeroLink)
+unfolding columnPut
 filled-at f zero ys old e l k h = absurd (omega arith)
 filled-at f (suc n) [] old e l k h = absurd (omega arith)
 filled-at f (suc n) (y ∷ ys) [] e l k h = absurd (omega arith)
 filled-at f (suc n) (y ∷ ys) (x ∷ old) zero l k h = refl
 filled-at f (suc n) (y ∷ ys) (x ∷ old) (suc e) l k h = filled-at f n ys old e (omega arith) (omega arith) (omega arith)
 
-pub filled-past : (f : Link → ℕ) (n : ℕ) (ys : List Link) (old : List ℕ) (e : ℕ) → n ≤ length ys → n ≤ length old → n ≤ e → getD (filled f n ys old) e 0 ≡ getD old e 0
-unfolding filled
+pub filled-past :
+    (f : Link → ℕ) (n : ℕ) (ys : List Link) (old : List ℕ) (e : ℕ) →
+    n ≤ length ys →
+    n ≤ length old →
+    n ≤ e →
+    getD (columnPut f n ys old) e 0 ≡ getD old e 0
+unfolding columnPut
 filled-past f zero ys old e l k h = refl
 filled-past f (suc n) [] old e l k h = absurd (omega arith)
 filled-past f (suc n) (y ∷ ys) [] e l k h = absurd (omega arith)
@@ -120,19 +134,19 @@ unfolding allBelow
 small-more i ys = rw (one-more i) refl
 
 -- A list that is not too long is tested whole.
-pub all-small-whole : (ys : List Link) → length ys ≤ 16383 → allSmall ys ≡ smallTo (length ys) ys
+pub all-small-whole : (ys : List Link) → length ys ≤ maxNumber → allSmall ys ≡ smallTo (length ys) ys
 all-small-whole ys h = ap (λ (k : ℕ). smallTo k ys) (omega arith)
 
 -- The test of one link, in the code's order.
 module _ (l : Link) where
-  pub large-end1 : 16383 < l .end1 → smallLink l ≡ false
-  large-end1 h = rw (lt-leb (l .end1) 16383 h)
+  pub large-end1 : maxNumber < l .end1 → smallLink l ≡ false
+  large-end1 h = rw (lt-leb (l .end1) maxNumber h)
 
-  pub large-end2 : l .end1 ≤ 16383 → 16383 < l .end2 → smallLink l ≡ false
-  large-end2 k₁ h = rw (le-leb (l .end1) 16383 k₁, lt-leb (l .end2) 16383 h)
+  pub large-end2 : l .end1 ≤ maxNumber → maxNumber < l .end2 → smallLink l ≡ false
+  large-end2 k₁ h = rw (le-leb (l .end1) maxNumber k₁, lt-leb (l .end2) maxNumber h)
 
-  pub large-cost : l .end1 ≤ 16383 → l .end2 ≤ 16383 → 16383 < l .cost → smallLink l ≡ false
-  large-cost k₁ k₂ h = rw (le-leb (l .end1) 16383 k₁, le-leb (l .end2) 16383 k₂, lt-leb (l .cost) 16383 h)
+  pub large-cost : l .end1 ≤ maxNumber → l .end2 ≤ maxNumber → maxNumber < l .cost → smallLink l ≡ false
+  large-cost k₁ k₂ h = rw (le-leb (l .end1) maxNumber k₁, le-leb (l .end2) maxNumber k₂, lt-leb (l .cost) maxNumber h)
 
-  pub mark-decides : l .end1 ≤ 16383 → l .end2 ≤ 16383 → l .cost ≤ 16383 → smallLink l ≡ leb (l .mark) 16383
-  mark-decides k₁ k₂ k₃ = rw (le-leb (l .end1) 16383 k₁, le-leb (l .end2) 16383 k₂, le-leb (l .cost) 16383 k₃)
+  pub mark-decides : l .end1 ≤ maxNumber → l .end2 ≤ maxNumber → l .cost ≤ maxNumber → smallLink l ≡ leb (l .mark) maxNumber
+  mark-decides k₁ k₂ k₃ = rw (le-leb (l .end1) maxNumber k₁, le-leb (l .end2) maxNumber k₂, le-leb (l .cost) maxNumber k₃)

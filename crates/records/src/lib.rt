@@ -4,7 +4,10 @@ ghost use mathlib.Core.Path.{_≡_};
 ghost use Prim.Native.Nat.{min};
 ghost use mathlib.Core.Bool.{_&&_};
 ghost use lib.ListN.{length};
-ghost use Rattle.records.specs.Records.{firsts, filled, smallLink, allSmall};
+ghost use Rattle.records.specs.Records.{firstLinks, columnPut, smallLink, allSmall};
+use limits::MOST_COUNT;
+use limits::MOST_NUMBER;
+use limits::TOO_LONG;
 
 #[repr(C)]
 pub struct Link {
@@ -18,16 +21,16 @@ pub struct Link {
 fn small(l: Link) -> bool
     ensures { λ r. ⌜ r ≡ smallLink l ⌝ }
 {
-    if 16383 < l.end1 {
+    if MOST_NUMBER < l.end1 {
         return false;
     }
-    if 16383 < l.end2 {
+    if MOST_NUMBER < l.end2 {
         return false;
     }
-    if 16383 < l.cost {
+    if MOST_NUMBER < l.cost {
         return false;
     }
-    l.mark <= 16383
+    l.mark <= MOST_NUMBER
 }
 
 // The links so far were small, and so is this one.
@@ -55,7 +58,7 @@ fn at_most(n: usize, most: usize) -> usize
 pub fn all_small(list: &[Link]) -> bool
     ensures { λ r. ⌜ r ≡ allSmall (now (list .entry)) ⌝ }
 {
-    let n = at_most(list.len(), 16384);
+    let n = at_most(list.len(), TOO_LONG);
     let mut sofar = true;
     let mut i = 0;
     while i < n {
@@ -67,9 +70,9 @@ pub fn all_small(list: &[Link]) -> bool
 
 // The first 256 links of the list, zeros behind the last.
 pub fn load(list: &[Link]) -> [Link; 256]
-    ensures { λ r. ⌜ r ≡ firsts 256 (now (list .entry)) ⌝ }
+    ensures { λ r. ⌜ r ≡ firstLinks 256 (now (list .entry)) ⌝ }
 {
-    let n = at_most(list.len(), 256);
+    let n = at_most(list.len(), MOST_COUNT);
     let mut links = [Link {
         end1: 0,
         end2: 0,
@@ -94,12 +97,12 @@ pub fn spread(
     mark: &mut [u32; 256],
 )
     requires { ⌜ (length (now end1) ≡ 256) × (length (now end2) ≡ 256) × (length (now cost) ≡ 256) × (length (now mark) ≡ 256) ⌝ }
-    ensures end1 { λ _. ⌜ now (end1 .exit) ≡ filled (λ l. l .end1) (min count 256) links (now (end1 .entry)) ⌝ }
-    ensures end2 { λ _. ⌜ now (end2 .exit) ≡ filled (λ l. l .end2) (min count 256) links (now (end2 .entry)) ⌝ }
-    ensures cost { λ _. ⌜ now (cost .exit) ≡ filled (λ l. l .cost) (min count 256) links (now (cost .entry)) ⌝ }
-    ensures mark { λ _. ⌜ now (mark .exit) ≡ filled (λ l. l .mark) (min count 256) links (now (mark .entry)) ⌝ }
+    ensures end1 { λ _. ⌜ now (end1 .exit) ≡ columnPut (λ l. l .end1) (min count 256) links (now (end1 .entry)) ⌝ }
+    ensures end2 { λ _. ⌜ now (end2 .exit) ≡ columnPut (λ l. l .end2) (min count 256) links (now (end2 .entry)) ⌝ }
+    ensures cost { λ _. ⌜ now (cost .exit) ≡ columnPut (λ l. l .cost) (min count 256) links (now (cost .entry)) ⌝ }
+    ensures mark { λ _. ⌜ now (mark .exit) ≡ columnPut (λ l. l .mark) (min count 256) links (now (mark .entry)) ⌝ }
 {
-    let n = at_most(count, 256);
+    let n = at_most(count, MOST_COUNT);
     let mut i: usize = 0;
     while i < n {
         let l = links[i];

@@ -3,11 +3,13 @@ use Prim.Native.Nat.{ℕ}
 use mathlib.Core.Path.{_≡_, refl}
 use mathlib.Core.List.{List, [], _∷_, map, flatMap}
 use lib.Dec.{eqb}
-use Rattle.loops.specs.Loop.{choose, scan}
-use Rattle.leb128.specs.Number.{encode, extend, decode}
-use Rattle.frame.specs.Questions.{front, divide, linksOf, question2, question3, question4, question5, question6, refusal, jobOf}
-use Rattle.frame.specs.Answers.{answerFrame, answerOf}
-use Rattle.loops.specs.Loop.{sum, allBelow, first, last, pick, gather}
+use Rattle.loops.specs.Below.{choose, sum, allBelow}
+use Rattle.loops.specs.Loop.{scan, first, last, pick, gather}
+use Rattle.number.specs.Number.{encode, extend, decode}
+use Rattle.frame.specs.Questions.{front, divideUpTo, question2, question3, question4, question5, question6, refusal, jobOf}
+use Rattle.frame.specs.Meaning.{linksOf}
+use Rattle.frame.specs.AnswerMeaning.{answerFrame}
+use Rattle.frame.specs.Answers.{answerOf}
 use Rattle.graph.specs.Rank.{insert, sorted}
 use Rattle.graph.specs.Paths.{grow, expandAll, judge}
 use Rattle.optimum.specs.Search.{follow, trySpares, tryTree, augment}
@@ -32,7 +34,8 @@ row s r = record { job = s; result = r }
 
 abbrev pub rows : List Row
 rows =
-    row (0x03 ∷ 0x03 ∷ 0x00 ∷ 0x01 ∷ 0x05 ∷ 0x01 ∷ 0x01 ∷ 0x02 ∷ 0x04 ∷ 0x01 ∷ 0x00 ∷ 0x02 ∷ 0x02 ∷ 0x00 ∷ []) (frame (0x03 ∷ 0x04 ∷ 0x04 ∷ 0x04 ∷ 0x01 ∷ 0x00 ∷ 0x02 ∷ [])) ∷
+    row (0x03 ∷ 0x03 ∷ 0x00 ∷ 0x01 ∷ 0x05 ∷ 0x01 ∷ 0x01 ∷ 0x02 ∷ 0x04 ∷ 0x01 ∷ 0x00 ∷ 0x02 ∷ 0x02 ∷ 0x00 ∷ [])
+    (frame (0x03 ∷ 0x04 ∷ 0x04 ∷ 0x04 ∷ 0x01 ∷ 0x00 ∷ 0x02 ∷ [])) ∷
     row (0x01 ∷ 0x00 ∷ []) (frame (0x00 ∷ 0x00 ∷ [])) ∷
     row (0x02 ∷ 0x02 ∷ 0x00 ∷ 0x01 ∷ 0x07 ∷ 0x01 ∷ 0x00 ∷ 0x01 ∷ 0x07 ∷ 0x00 ∷ []) (frame (0x00 ∷ 0x07 ∷ 0x07 ∷ 0x00 ∷ [])) ∷
     row (0x02 ∷ 0x02 ∷ 0x00 ∷ 0x01 ∷ 0x07 ∷ 0x01 ∷ 0x00 ∷ 0x01 ∷ 0x06 ∷ 0x00 ∷ []) (frame (0x01 ∷ 0x06 ∷ 0x06 ∷ 0x01 ∷ 0x00 ∷ 0x01 ∷ [])) ∷
@@ -44,5 +47,5 @@ rows =
     []
 
 pub rows-hold : map (λ (r : Row). resultOf (r .job)) rows ≡ map (λ (r : Row). r .result) rows
-unfolding linksOf question2 question3 question4 question5 question6 flatMap encode extend decode front divide scan sum allBelow first last pick gather insert sorted grow expandAll judge follow trySpares tryTree augment labelTree mateSearch labelSpare labelFrom join pairAt solve xor
+unfolding linksOf question2 question3 question4 question5 question6 flatMap encode extend decode front divideUpTo scan sum allBelow first last pick gather insert sorted grow expandAll judge follow trySpares tryTree augment labelTree mateSearch labelSpare labelFrom join pairAt solve xor
 rows-hold = refl

@@ -93,9 +93,10 @@ fn show_read(name: &[u8], frame: &[u8]) {
     io::write_all(1, name);
     print_number(b": refusal ", job.refusal);
     print_number(b", stations ", job.nodes);
-    print_number(b", links ", job.count);
+    io::write_all(1, b", links ");
+    io::print_decimal(1, job.count as u64);
     let links = job.links;
-    print_links(job.count as usize, links);
+    print_links(job.count, links);
 }
 
 fn print_pair(tree: u32, spare: u32) {
@@ -113,8 +114,8 @@ fn show_contents(name: &[u8], frame: &[u8], offered: &[u8]) {
     print_number(b" ", answer.costs[3]);
     io::write_all(1, b", pairs ");
     io::print_decimal(1, answer.count as u64);
-    print_pair(answer.trees[0], answer.spares[0]);
-    print_pair(answer.trees[1], answer.spares[1]);
+    print_pair(answer.pairs[0], answer.pairs[1]);
+    print_pair(answer.pairs[2], answer.pairs[3]);
     io::write_all(1, b"\n");
 }
 
@@ -176,7 +177,7 @@ fn answer_long(name: &[u8], frame: &[u8], area: &mut [u8]) {
 
 // The total that an answer names.
 fn show_total(name: &[u8], answer: &[u8]) {
-    let steps = leb128::read(answer, 0, 3);
+    let steps = leb128::read(answer, 0, limits::STEP_BYTES);
     match steps {
         Number::Value(total, _) => {
             print_number(name, total);
@@ -192,11 +193,11 @@ fn show_total(name: &[u8], answer: &[u8]) {
 fn longest() {
     let mut short_frame = [170u8; 1282];
     write_long(b"64 stations, 256 links, 1282 bytes", &mut short_frame);
-    let mut frame = [170u8; 1283];
+    let mut frame = [170u8; limits::JOB_MOST];
     write_long(b"64 stations, 256 links, 1283 bytes", &mut frame);
     let mut short_area = [170u8; 767];
     answer_long(b"their answer, 767 bytes", &frame, &mut short_area);
-    let mut area = [170u8; 768];
+    let mut area = [170u8; limits::ANSWER_MOST];
     answer_long(b"their answer, 768 bytes", &frame, &mut area);
     show_total(b"their total ", &area);
     show_verdict(b"their answer", judging::judge_answer(&frame, &area));

@@ -8,11 +8,16 @@ use lib.Dec.{eqb}
 use borrow.Author.Tests.{le-ltb}
 use Rattle.optimum.specs.Search.{Problem, Mates, Search, seeTree, trySpares, tryTree, search}
 use Rattle.optimum.specs.SearchLaws.{Explored, Always, kept-always, search-explores}
-use Rattle.search.specs.State.{matesOf, stateOf, Below, Taken, Ready, TreeTried, Suits, Swept}
+use Rattle.search.specs.State.{arrayMates, stateOf, Below, Taken, Ready, TreeTried, Suits, Swept}
 use Rattle.search.specs.TreeSteps.{rowsProblem, rows-problem}
 
 -- Whatever number past the spare ranks stands for no goal.
-no-goal : (p : Problem) (goal other : ℕ) → p .spares ≤ goal → p .spares ≤ other → (depth t : ℕ) (st : Search) → tryTree p goal depth t st ≡ tryTree p other depth t st
+no-goal :
+    (p : Problem) (goal other : ℕ) →
+    p .spares ≤ goal →
+    p .spares ≤ other →
+    (depth t : ℕ) (st : Search) →
+    tryTree p goal depth t st ≡ tryTree p other depth t st
 unfolding tryTree
 no-goal p goal other l m zero t st = refl
 no-goal p goal other l m (suc depth) t st =
@@ -21,7 +26,7 @@ no-goal p goal other l m (suc depth) t st =
     (fun-ext (λ u. fun-ext (no-goal p goal other l m depth u))))
 
 -- Mates that are the same have the same bounds and leave the same ranks matched.
-module _ (mates mates′ : List ℕ) (same : matesOf mates′ ≡ matesOf mates) where
+module _ (mates mates′ : List ℕ) (same : arrayMates mates′ ≡ arrayMates mates) where
   pub below-same : (n : ℕ) → Below n mates → Below n mates′
   below-same n b s = rw (ap (λ (m : Mates). m s) same) (b s)
 
@@ -59,7 +64,7 @@ module _
         alone : stateOf mates′ trees′ live′ met ≡ search (rowsProblem rows) 256 t start
         alone = whole (rowsProblem rows) (record { rows-are = rows-problem rows; below = r .below }) (r .rank)
 
-        explored : Explored (rowsProblem rows) 256 (matesOf mates) Always Always start t (search (rowsProblem rows) 256 t start)
+        explored : Explored (rowsProblem rows) 256 (arrayMates mates) Always Always start t (search (rowsProblem rows) 256 t start)
         explored =
             search-explores (rowsProblem rows) 256 start Always Always (kept-always (rowsProblem rows) start)
             (λ s u k e. omega (arith, r .below s)) t tt refl refl

@@ -73,7 +73,14 @@ module _ (n : ℕ) where
         (visit : ℕ → Search → Search)
         (visits : (t : ℕ) (st : Search) → t < n → st .met ≡ false → Reached n base st → Reached n base (visit t st))
       where
-        pub follow-reaches : (t s : ℕ) (st : Search) → t < n → st .met ≡ false → Reached n base st → (mate : ℕ) → st .mates s ≡ mate → Reached n base (follow visit t s mate st)
+        pub follow-reaches :
+            (t s : ℕ) (st : Search) →
+            t < n →
+            st .met ≡ false →
+            Reached n base st →
+            (mate : ℕ) →
+            st .mates s ≡ mate →
+            Reached n base (follow visit t s mate st)
         unfolding follow
         follow-reaches t s st l m h zero e = h
         follow-reaches t s st l m h (suc t′) e =

@@ -20,21 +20,21 @@ use Rattle.sets.specs.Sets.{member}
 use Rattle.graph.specs.Graph.{count}
 use Rattle.graph.specs.CountLaws.{count-put, count-below, count-within}
 use Rattle.optimum.specs.Search.{Problem, Mates, Search, seeTree, seeSpare, match, follow, tryTree}
-use Rattle.search.specs.State.{matesOf, stateOf, Below, Rows, unvisited, TreeTried, SpareTried}
+use Rattle.search.specs.State.{arrayMates, stateOf, Below, Rows, unvisited, TreeTried, SpareTried}
 
 -- A tree rank, a spare rank marked.
 pub state-tree : (mates : List ℕ) (trees trees′ : ℕ) (live : List ℕ) (t : ℕ)
     → ((j : ℕ) → bit trees′ j ≡ (bit trees j || eqb t j))
     → stateOf mates trees′ live false ≡ seeTree t (stateOf mates trees live false)
 state-tree mates trees trees′ live t h =
-    ap (λ (f : ℕ → Bool). record { mates = matesOf mates; treeSeen = f; spareSeen = λ s. not (member live s); met = false })
+    ap (λ (f : ℕ → Bool). record { mates = arrayMates mates; treeSeen = f; spareSeen = λ s. not (member live s); met = false })
     (added (bit trees) (bit trees′) t h)
 
 pub state-spare : (mates : List ℕ) (trees : ℕ) (live live′ : List ℕ) (s : ℕ)
     → ((j : ℕ) → member live′ j ≡ (member live j && not (eqb s j)))
     → stateOf mates trees live′ false ≡ seeSpare s (stateOf mates trees live false)
 state-spare mates trees live live′ s h =
-    ap (λ (f : ℕ → Bool). record { mates = matesOf mates; treeSeen = bit trees; spareSeen = f; met = false })
+    ap (λ (f : ℕ → Bool). record { mates = arrayMates mates; treeSeen = bit trees; spareSeen = f; met = false })
     (added (λ j. not (member live j)) (λ j. not (member live′ j)) s (λ j. ap not (h j) ∙ out (member live j) (eqb s j)))
   where
     out : (b e : Bool) → not (b && not e) ≡ (not b || e)
@@ -43,11 +43,11 @@ state-spare mates trees live live′ s h =
     out false e = refl
 
 -- A mate written.
-pub mates-set : (mates : List ℕ) (s m : ℕ) → s < length mates → matesOf (set mates s m) ≡ put (matesOf mates) s m
+pub mates-set : (mates : List ℕ) (s m : ℕ) → s < length mates → arrayMates (set mates s m) ≡ put (arrayMates mates) s m
 mates-set mates s m l =
     fun-ext (λ x. elim (ℕ-discrete x s) [
-      | yes e ↦ rw e (getD-set-same mates s m 0 l ∙ sym (put-same (matesOf mates) s m))
-      | no d ↦ getD-set-other mates s x m 0 d ∙ sym (put-other (matesOf mates) s m x d)
+      | yes e ↦ rw e (getD-set-same mates s m 0 l ∙ sym (put-same (arrayMates mates) s m))
+      | no d ↦ getD-set-other mates s x m 0 d ∙ sym (put-other (arrayMates mates) s m x d)
     ])
 
 pub state-match : (mates : List ℕ) (trees : ℕ) (live : List ℕ) (met : Bool) (t s m : ℕ) → s < length mates → m ≡ suc t

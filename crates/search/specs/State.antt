@@ -13,14 +13,14 @@ use Rattle.graph.specs.Graph.{count}
 use Rattle.optimum.specs.Search.{Problem, Mates, Search, seeSpare, follow, tryTree, search}
 
 -- The matching that an array holds.
-abbrev pub matesOf : List ℕ → Mates
-matesOf mates s = getD mates s 0
+abbrev pub arrayMates : List ℕ → Mates
+arrayMates mates s = getD mates s 0
 
 -- The search's state: the mates, the tree ranks seen in a word, the live spare ranks, which are those not seen, in four
 -- words, and whether the goal was met.
 abbrev pub stateOf : List ℕ → ℕ → List ℕ → Bool → Search
 stateOf mates trees live met =
-    record { mates = matesOf mates; treeSeen = bit trees; spareSeen = λ s. not (member live s); met = met }
+    record { mates = arrayMates mates; treeSeen = bit trees; spareSeen = λ s. not (member live s); met = met }
 
 -- No mate is past tree rank n - 1.
 abbrev pub Below : ℕ → List ℕ → Type 0
@@ -74,7 +74,7 @@ pub record Suits (p : Problem) (rows mates : List ℕ) : Type 0 where
 pub record Swept (t : ℕ) (rows mates : List ℕ) (trees : ℕ) (live mates′ : List ℕ) (trees′ : ℕ) (live′ : List ℕ) : Type 0 where
   pub mates-length : length mates′ ≡ 256
   pub live-length : length live′ ≡ 4
-  pub same : matesOf mates′ ≡ matesOf mates
+  pub same : arrayMates mates′ ≡ arrayMates mates
   pub equal :
       (p : Problem) → Suits p rows mates → t < p .trees
       → stateOf mates′ trees′ live′ false ≡ search p (p .spares) t (stateOf mates trees live false)

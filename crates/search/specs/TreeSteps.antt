@@ -11,7 +11,8 @@ use mathlib.Core.List.{List}
 use lib.Dec.{ltb, eqb}
 use lib.ListN.{length, getD, set, length-set}
 use borrow.Author.Tests.{lt-ltb, le-ltb, ltb-true, eq-eqb, not-true}
-use Rattle.loops.specs.Loop.{choose, put, pick}
+use Rattle.loops.specs.Below.{choose}
+use Rattle.loops.specs.Loop.{put, pick}
 use Rattle.loops.specs.TestLaws.{truth, and-first, and-second, or-neither, clash}
 use Rattle.loops.specs.PutLaws.{put-same, put-other, put-kept}
 use Rattle.loops.specs.FirstLaws.{pick-is, pick-same}
@@ -71,12 +72,19 @@ module _ (p : Problem) (goal depth t : ℕ) (st : Search) where
   unfolding tryTree
   tree-meets h = rw h
 
-  tree-scans : (ltb goal (p .spares) && p .covers t goal) ≡ false → tryTree p goal (suc depth) t st ≡ trySpares p (tryTree p goal depth) t (p .spares) (seeTree t st)
+  tree-scans :
+      (ltb goal (p .spares) && p .covers t goal) ≡ false →
+      tryTree p goal (suc depth) t st ≡ trySpares p (tryTree p goal depth) t (p .spares) (seeTree t st)
   unfolding tryTree
   tree-scans h = rw h
 
 -- Code and model ask the same of the goal.
-goal-same : (p : Problem) (rows : List ℕ) → Rows p rows → (t goal : ℕ) → t < p .trees → (ltb goal (p .spares) && p .covers t goal) ≡ (ltb goal 256 && inRow rows t goal)
+goal-same :
+    (p : Problem) (rows : List ℕ) →
+    Rows p rows →
+    (t goal : ℕ) →
+    t < p .trees →
+    (ltb goal (p .spares) && p .covers t goal) ≡ (ltb goal 256 && inRow rows t goal)
 goal-same p rows r t goal l =
     elim (decLt goal (p .spares)) [
       | yes k ↦ rw (lt-ltb goal (p .spares) k, lt-ltb goal 256 (omega (arith, r .few)), r .covered t goal l k)
@@ -133,7 +141,8 @@ module _ (p : Problem) (rows live : List ℕ) (r : Rows p rows) (t : ℕ) (l : t
       | inl g ↦
           let b : pick (p .spares) there < 256 = omega (arith, g .0, r .few) in
           let both = next-same (pick (p .spares) there) in
-          clash (g .1) (rw (lt-ltb (pick (p .spares) there) (p .spares) (g .0), lt-ltb (pick (p .spares) there) 256 b) at (sym both) ∙ f .1 (pick (p .spares) there) b)
+          clash (g .1) (rw (lt-ltb (pick (p .spares) there) (p .spares) (g .0), lt-ltb (pick (p .spares) there) 256 b) at (sym both) ∙
+          f .1 (pick (p .spares) there) b)
       | inr g ↦ omega (arith, g .0)
     ]
   ]
@@ -157,7 +166,8 @@ pub record Passing (t goal : ℕ) (rows mates₀ : List ℕ) (trees₀ : ℕ) (l
       (p : Problem) (k : ℕ) → Rows p rows → Below (p .trees) mates₀ → t < p .trees
       → p .trees ≤ k + count (p .trees) (bit trees₀)
       → (turns : ℕ) × (p .spares ≤ turns + count (p .spares) (λ s. not (member live s)))
-      × (trySpares p (tryTree p goal k) t turns (stateOf mates trees live false) ≡ trySpares p (tryTree p goal k) t (p .spares) (stateOf mates₀ trees₀ live₀ false))
+      × (trySpares p (tryTree p goal k) t turns (stateOf mates trees live false) ≡ trySpares p (tryTree p goal k) t (p .spares)
+      (stateOf mates₀ trees₀ live₀ false))
 
 module _
     (t goal : ℕ)

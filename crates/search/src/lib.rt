@@ -15,7 +15,7 @@ fn goal_covers(goal: SpareRank, t: TreeRank, rows: &[u64; 256]) -> bool
     ensures { λ r. ⌜ r ≡ (ltb (goal .0) 256 && inRow (now (rows .entry)) (t .0) (goal .0)) ⌝ }
 {
     if goal.0 < 256 {
-        return sets::contains_in_row(rows, t.0, goal.0);
+        return set_rows::contains_in_row(rows, t.0, goal.0);
     }
     false
 }
@@ -31,7 +31,8 @@ pub fn try_tree(
     live: &mut [u64; 4],
 ) -> bool
     requires { ⌜ (bit (now «tree_seen») (t .0) ≡ false) × Ready (t .0) (now mates) (now live) ⌝ }
-    ensures { λ r. ⌜ TreeTried (t .0) (goal .0) (now (rows .entry)) (now (mates .entry)) (now («tree_seen» .entry)) (now (live .entry)) (now (mates .exit)) (now («tree_seen» .exit)) (now (live .exit)) r ⌝ }
+    ensures { λ r. ⌜ TreeTried (t .0) (goal .0) (now (rows .entry)) (now (mates .entry)) (now («tree_seen» .entry)) (now (live .entry)) (now (mates .exit))
+        (now («tree_seen» .exit)) (now (live .exit)) r ⌝ }
 {
     if goal_covers(goal, t, rows) {
         mates[goal.0 as usize] = t.0 + 1;
@@ -39,7 +40,7 @@ pub fn try_tree(
     }
     *tree_seen = bits::with(*tree_seen, t.0);
     loop {
-        let s = sets::next(rows, t.0, live);
+        let s = set_rows::next(rows, t.0, live);
         if s == 256 {
             return false;
         }
@@ -60,7 +61,8 @@ fn try_spare(
     live: &mut [u64; 4],
 ) -> bool
     requires { ⌜ (s .0 < 256) × (member (now live) (s .0) ≡ true) × Ready (t .0) (now mates) (now live) ⌝ }
-    ensures { λ r. ⌜ SpareTried (t .0) (s .0) (goal .0) (now (rows .entry)) (now (mates .entry)) (now («tree_seen» .entry)) (now (live .entry)) (now (mates .exit)) (now («tree_seen» .exit)) (now (live .exit)) r ⌝ }
+    ensures { λ r. ⌜ SpareTried (t .0) (s .0) (goal .0) (now (rows .entry)) (now (mates .entry)) (now («tree_seen» .entry)) (now (live .entry))
+        (now (mates .exit)) (now («tree_seen» .exit)) (now (live .exit)) r ⌝ }
 {
     sets::remove(live, s.0);
     let k = s.0 as usize;
@@ -88,7 +90,8 @@ pub fn explore(
     live: &mut [u64; 4],
 )
     requires { ⌜ (bit (now «tree_seen») (t .0) ≡ false) × Ready (t .0) (now mates) (now live) ⌝ }
-    ensures { λ r. ⌜ Swept (t .0) (now (rows .entry)) (now (mates .entry)) (now («tree_seen» .entry)) (now (live .entry)) (now (mates .exit)) (now («tree_seen» .exit)) (now (live .exit)) ⌝ }
+    ensures { λ r. ⌜ Swept (t .0) (now (rows .entry)) (now (mates .entry)) (now («tree_seen» .entry)) (now (live .entry)) (now (mates .exit))
+        (now («tree_seen» .exit)) (now (live .exit)) ⌝ }
 {
     try_tree(t, SpareRank(256), rows, mates, tree_seen, live);
 }

@@ -304,7 +304,13 @@ module _ (ws : List ℕ) where
   pub top-none : getD ws 0 0 ≡ 0 → ClearFrom 1 → behind 256 (member ws) ≡ 0
   top-none e c = behind-none 256 (member ws) (λ i l. clear-from-more 0 e c i (omega arith) l)
 
-  pub top-word : (k : ℕ) → k < 4 → ClearFrom (suc k) → 0 < getD ws k 0 → getD ws k 0 < 2 ^ 64 → behind 256 (member ws) ≡ 64 * k + 1 + last 64 (bit (getD ws k 0)) 64
+  pub top-word :
+      (k : ℕ) →
+      k < 4 →
+      ClearFrom (suc k) →
+      0 < getD ws k 0 →
+      getD ws k 0 < 2 ^ 64 →
+      behind 256 (member ws) ≡ 64 * k + 1 + last 64 (bit (getD ws k 0)) 64
   top-word k m c l u =
       let w : ℕ = getD ws k 0 in
       let f : Last 64 (bit w) (last 64 (bit w) 64) = last-set 64 w l u in
@@ -403,9 +409,11 @@ some-turn rows left rest k s u l e more = same-test _ _ forth back
           | yes q ↦ rw (rw q at (and-second (bit left t) (inRow rows t s) both))
           | no q ↦
               let other : not (eqb t (first 64 (bit left))) ≡ true = ap not (ne-eqb t (first 64 (bit left)) (λ r. q (r ∙ sym e))) in
-              let still : bit rest t ≡ true = more t ∙ and-both (bit left t) (not (eqb t (first 64 (bit left)))) (and-first (bit left t) (inRow rows t s) both) other in
+              let still : bit rest t ≡ true = more t ∙
+              and-both (bit left t) (not (eqb t (first 64 (bit left)))) (and-first (bit left t) (inRow rows t s) both) other in
               or-right (inRow rows k s) (inSome rows (bit rest) s)
-              (some-of 64 (λ t. bit rest t && inRow rows t s) t b (and-both (bit rest t) (inRow rows t s) still (and-second (bit left t) (inRow rows t s) both)))
+              (some-of 64 (λ t. bit rest t && inRow rows t s) t b
+              (and-both (bit rest t) (inRow rows t s) still (and-second (bit left t) (inRow rows t s) both)))
         ]
 
 pub some-none : (rows : List ℕ) (s : ℕ) → inSome rows (bit 0) s ≡ false

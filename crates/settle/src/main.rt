@@ -1,116 +1,45 @@
 // Reads one job frame from standard input and prints the answer to it, or why it is refused.
-use leb128::Number;
+ghost use Prim.Native.Nat.{_≤_};
+ghost use mathlib.Core.Path.{_≡_};
+ghost use lib.ListN.{length, take};
+ghost use Rattle.io.specs.Counts.{Counts};
+ghost use Rattle.codec.specs.Numbers.{Put};
+ghost use Rattle.settle.specs.Printed.{printed, linesOf};
+use limits::ANSWER_MOST;
+use reading::AnswerRead;
+use reading::JobRead;
 
-// A number, and what stands behind it. False, here and below: the system did not take all of it.
-fn print(n: u64, behind: &[u8]) -> bool {
-    if !io::print_decimal(1, n) {
-        return false;
-    }
-    io::write_all(1, behind)
+// Puts the lines of an answer into a buffer that is long enough for every answer, and gives where they end.
+fn put_answer(out: &mut [u8], job: JobRead, answer: AnswerRead) -> usize
+    requires { ⌜ job .count ≤ 256 ⌝ }
+    requires { ⌜ answer .count ≤ 64 ⌝ }
+    requires { ⌜ 20480 ≤ length (now out) ⌝ }
+    ensures { λ r. ⌜ Put (now (out .entry)) 0 (linesOf job answer) r (now (out .exit)) ⌝ }
+{
+    let links = job.links;
+    let costs = answer.costs;
+    let pairs = answer.pairs;
+    let p = text::put_word(out, 0, b"total ", answer.steps, b"\n");
+    let q = text::put_links(out, p, job.count, links, costs);
+    text::put_pairs(out, q, answer.count, pairs)
 }
 
-// Positions in the job frame and in the area, and whether all was printed so far.
-struct Spots {
-    job: usize,
-    area: usize,
-    printed: bool,
-}
-
-fn print_costs(e: u32, old: u32, new: u32) -> bool {
-    if !print(e as u64, b" ") {
-        return false;
-    }
-    if !print(old as u64, b" ") {
-        return false;
-    }
-    print(new as u64, b"\n")
-}
-
-// One link's line: link, old cost, new cost. Gives where the next link's numbers stand.
-fn print_link(frame: &[u8], area: &[u8], spots: Spots, e: u32) -> Spots {
-    let a = job::read::number_at(frame, spots.job);
-    let b = job::read::number_at(frame, a.next);
-    let old = job::read::number_at(frame, b.next);
-    let mark = job::read::number_at(frame, old.next);
-    let new = job::read::number_at(area, spots.area);
-    let line = print_costs(e, old.value, new.value);
-    Spots {
-        job: mark.next,
-        area: new.next,
-        printed: spots.printed & line,
-    }
-}
-
-// A line for each link. Gives the position behind the new costs.
-fn print_links(frame: &[u8], area: &[u8], spots: Spots, edges: u32) -> Spots {
-    let mut at = spots;
-    for e in 0..edges {
-        at = print_link(frame, area, at, e);
-    }
-    at
-}
-
-// A word, and a number behind it.
-fn print_word(word: &[u8], n: u64, behind: &[u8]) -> bool {
-    if !io::write_all(1, word) {
-        return false;
-    }
-    print(n, behind)
-}
-
-// One pair's line, tree link first. Gives the position behind the pair.
-fn print_pair(area: &[u8], spots: Spots) -> Spots {
-    let tree = job::read::number_at(area, spots.area);
-    let spare = job::read::number_at(area, tree.next);
-    let first = print_word(b"pair ", tree.value as u64, b" ");
-    let second = print(spare.value as u64, b"\n");
-    Spots {
-        job: spots.job,
-        area: spare.next,
-        printed: spots.printed & first & second,
-    }
-}
-
-fn print_pairs(area: &[u8], spots: Spots, count: u32) -> bool {
-    let mut at = spots;
-    for _ in 0..count {
-        at = print_pair(area, at);
-    }
-    at.printed
-}
-
-// The answer in the area, which was written for this frame.
-fn print_answer(frame: &[u8], area: &[u8]) -> bool {
-    let steps = leb128::read(area, 0, 3);
-    let Number::Value(total, costs) = steps else {
-        return false;
-    };
-    let line = print_word(b"total ", total as u64, b"\n");
-    let nodes = job::read::number_at(frame, 0);
-    let edges = job::read::number_at(frame, nodes.next);
-    let spots = Spots {
-        job: edges.next,
-        area: costs,
-        printed: line,
-    };
-    let links = print_links(frame, area, spots, edges.value);
-    let count = job::read::number_at(area, links.area);
-    let pairs = Spots {
-        job: links.job,
-        area: count.next,
-        printed: links.printed,
-    };
-    print_pairs(area, pairs, count.value)
-}
-
-// Prints the answer to a job frame, or its refusal.
-fn settle(frame: &[u8]) -> bool {
-    let mut area = [0u8; 768];
+// Puts what is to be printed for a job frame into the buffer: the answer's lines, or one that names the refusal.
+fn put_reply(frame: &[u8], out: &mut [u8]) -> usize
+    requires { ⌜ 20480 ≤ length (now out) ⌝ }
+    ensures { λ r. ⌜ take r (now (out .exit)) ≡ printed (now (frame .entry)) ⌝ }
+    ensures { λ r. ⌜ Counts r (now (out .exit)) ⌝ }
+{
+    let mut area = [0u8; ANSWER_MOST];
     let reply = answering::answer(frame, &mut area);
-    if reply.refusal != 0 {
-        return print_word(b"refused ", reply.refusal as u64, b"\n");
+    let refusal = reply.refusal;
+    if refusal != 0 {
+        return text::put_word(out, 0, b"refused ", refusal, b"\n");
     }
-    print_answer(frame, &area)
+    let length = reply.length;
+    let job = reading::read_job(frame);
+    let answer = reading::read_answer(frame, &area[..length]);
+    put_answer(out, job, answer)
 }
 
 // Has standard input ended? If not, reading stopped because it failed.
@@ -119,20 +48,25 @@ fn ended() -> bool {
     libc::read(0, &mut more) == 0
 }
 
+// Writes all of a text in one go, or says that it cannot.
+fn write(text: &[u8]) {
+    if !io::write_all(1, text) {
+        io::write_all(2, b"settle: cannot write to standard output\n");
+    }
+}
+
 fn main() {
     let mut input = [0u8; 65537];
     let n = io::read_full(0, &mut input);
     if 65536 < n {
-        if !io::write_all(1, b"too long\n") {
-            io::write_all(2, b"settle: cannot write to standard output\n");
-        }
+        write(b"too long\n");
         return;
     }
     if !ended() {
         io::write_all(2, b"settle: cannot read standard input\n");
         return;
     }
-    if !settle(&input[..n]) {
-        io::write_all(2, b"settle: cannot write to standard output\n");
-    }
+    let mut out = [0u8; 20480];
+    let length = put_reply(&input[..n], &mut out);
+    write(&out[..length]);
 }

@@ -2,4 +2,3 @@
 pub mod Asked
 pub mod RowLaws
 pub mod PlaceLaws
-pub mod CountLaws

@@ -14,7 +14,7 @@ use Rattle.loops.specs.ScanLaws.{scan-start, scan-turn, scan-end}
 use Rattle.optimum.specs.Solve.{place, join, partners}
 use Rattle.solution.specs.Asked.{Ranks}
 
--- A list with one changed element, and a list of zeros, as functions.
+-- A list with one changed element, and a list of zeros-at, as functions.
 set-put : (l : List ℕ) (i x : ℕ) → i < length l → (λ e. getD (set l i x) e 0) ≡ put (λ e. getD l e 0) i x
 set-put l i x h =
     fun-ext λ e. elim (ℕ-discrete e i) [
@@ -22,8 +22,8 @@ set-put l i x h =
       | no d ↦ getD-set-other l i e x 0 d ∙ sym (put-other (λ e. getD l e 0) i x e d)
     ]
 
-pub zeros : (n : ℕ) → _≡_ {A = ℕ → ℕ} (λ e. getD (replicate n 0) e 0) (λ _. 0)
-zeros n =
+pub zeros-at : (n : ℕ) → _≡_ {A = ℕ → ℕ} (λ e. getD (replicate n 0) e 0) (λ _. 0)
+zeros-at n =
     fun-ext λ e. elim (decLt e n) [
       | yes l ↦ getD-replicate n e 0 0 l
       | no h ↦ List·getD-eq-default (replicate n 0) 0 {n = e} (omega (arith, length-replicate {A = ℕ} n 0))
@@ -87,7 +87,7 @@ module _ (ts ss mates : List ℕ) (q : ℕ) where
   partnersFrom s f = scan (λ s f. join ts (getD (take q ss) s 0) (getD mates s 0) f) (length (take q ss) - s) s f
 
   pub partners-start : (mate : List ℕ) → mate ≡ replicate 256 0 → partnersFrom 0 (λ e. getD mate e 0) ≡ partners ts (take q ss) (λ s. getD mates s 0)
-  partners-start mate h = ap (partnersFrom 0) (ap (λ l e. getD l e 0) h ∙ zeros 256) ∙ scan-start _ (length (take q ss)) (λ _. 0)
+  partners-start mate h = ap (partnersFrom 0) (ap (λ l e. getD l e 0) h ∙ zeros-at 256) ∙ scan-start _ (length (take q ss)) (λ _. 0)
 
   module _ (r : Ranks q ss) (s : ℕ) where
     pub partners-turn :

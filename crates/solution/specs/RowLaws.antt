@@ -16,7 +16,8 @@ use Rattle.bits.specs.Bit.{bit}
 use Rattle.bits.specs.BitLaws.{bit-zero, first-below}
 use Rattle.sets.specs.Sets.{inRow}
 use Rattle.sets.specs.SetsLaws.{row-none}
-use Rattle.solution.specs.Asked.{covers, costAt, undercuts, Rising}
+use Rattle.solution.specs.Asked.{covers, undercuts, RanksRise}
+use Rattle.graph.specs.Rank.{costAt}
 
 put-now : (r e : Bool) → ((r || (true && e)) || (e && (true && not true))) ≡ (r || (e && true))
 put-now true e = refl
@@ -62,7 +63,7 @@ rows-start rows h b t s = rw (h, row-none 256 t s, le-ltb s 0 (omega arith))
 
 -- The limit found for spare rank i among the tree ranks below the last limit: it is that of all of them, and no tree rank
 -- from it on costs more than a later spare rank.
-module _ (cost ts ss : List ℕ) (trees q limit limit′ i : ℕ) (within : i < q) (fewer : limit′ ≤ limit) (rises : Rising q cost ss)
+module _ (cost ts ss : List ℕ) (trees q limit limit′ i : ℕ) (within : i < q) (fewer : limit′ ≤ limit) (rises : RanksRise q cost ss)
     (cut : (t s : ℕ) → limit ≤ t → t < trees → i ≤ s → s < q → costAt cost ts t ≤ costAt cost ss s)
     (found : (t : ℕ) → t < limit → ltb (costAt cost ss i) (costAt cost ts t) ≡ ltb t limit′) where
   pub limit-all : (t : ℕ) → t < trees → ltb (costAt cost ss i) (costAt cost ts t) ≡ ltb t limit′
@@ -82,16 +83,16 @@ module _ (cost ts ss : List ℕ) (trees q limit limit′ i : ℕ) (within : i < 
 -- Spare rank i is put into the rows of the tree ranks that it undercuts.
 module _ (cost ts ss end₁ end₂ mask : List ℕ) (trees : ℕ) where
   -- Which rows the spare ranks below i are in.
-  abbrev pub Filled : ℕ → List ℕ → Type 0
-  Filled i rows = (t s : ℕ) → t < trees → s < 256 → inRow rows t s ≡ (ltb s i && undercuts cost ts ss end₁ end₂ mask t s)
+  abbrev pub RowsHold : ℕ → List ℕ → Type 0
+  RowsHold i rows = (t s : ℕ) → t < trees → s < 256 → inRow rows t s ≡ (ltb s i && undercuts cost ts ss end₁ end₂ mask t s)
 
-  module _ (before after : List ℕ) (i over upper above limit : ℕ) (so-far : Filled i before)
+  module _ (before after : List ℕ) (i over upper above limit : ℕ) (so-far : RowsHold i before)
       (covered : (t : ℕ) → bit over t ≡ covers end₁ end₂ mask (getD ss i 0) t)
       (dearer : (t : ℕ) → t < trees → ltb (costAt cost ss i) (costAt cost ts t) ≡ ltb t limit)
       (below : (t : ℕ) → bit upper t ≡ ltb t limit)
       (both : (t : ℕ) → bit above t ≡ (bit over t && bit upper t))
       (more : (t s : ℕ) → s < 256 → inRow after t s ≡ (inRow before t s || (eqb i s && bit above t))) where
-    pub rows-turn : Filled (i + 1) after
+    pub rows-turn : RowsHold (i + 1) after
     rows-turn t s m l = more t s l ∙ rw (so-far t s m l, both t, covered t, below t, ← dearer t m) (elim (ℕ-discrete s i) [
       | yes e ↦ rw (e, eq-eqb i i refl, le-ltb i i (omega arith), lt-ltb i (i + 1) (omega arith))
       | no d ↦ rw (ne-eqb i s (λ e. d (sym e)), later d) (or-false (ltb s i && undercuts cost ts ss end₁ end₂ mask t s))
@@ -105,12 +106,13 @@ module _ (cost ts ss end₁ end₂ mask : List ℕ) (trees : ℕ) where
 
   -- The spare ranks from i on undercut nothing.
   pub rows-end :
-      (rows : List ℕ) (i q : ℕ) → i ≤ q → Filled i rows
-      → ((t s : ℕ) → t < trees → i ≤ s → s < q → costAt cost ts t ≤ costAt cost ss s) → Filled q rows
+      (rows : List ℕ) (i q : ℕ) → i ≤ q → RowsHold i rows
+      → ((t s : ℕ) → t < trees → i ≤ s → s < q → costAt cost ts t ≤ costAt cost ss s) → RowsHold q rows
   rows-end rows i q h so-far none t s m l = so-far t s m l ∙ elim (decLt s i) [
     | yes b ↦ rw (lt-ltb s i b, lt-ltb s q (omega arith))
     | no b ↦ rw (le-ltb s i (omega arith)) (elim (decLt s q) [
-      | yes k ↦ rw (le-ltb (costAt cost ss s) (costAt cost ts t) (none t s m (omega arith) k), lt-ltb s q k) (sym (and-false (covers end₁ end₂ mask (getD ss s 0) t)))
+      | yes k ↦ rw (le-ltb (costAt cost ss s) (costAt cost ts t) (none t s m (omega arith) k), lt-ltb s q k)
+          (sym (and-false (covers end₁ end₂ mask (getD ss s 0) t)))
       | no k ↦ rw (le-ltb s q (omega arith))
     ])
   ]

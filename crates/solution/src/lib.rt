@@ -5,11 +5,12 @@ ghost use mathlib.Core.Bool.{_&&_, _||_};
 ghost use Prim.Native.Nat.{ℕ, _-_, _<_, _≤_};
 ghost use lib.Dec.{eqb, ltb};
 ghost use lib.ListN.{length, getD, replicate, take};
-ghost use Rattle.loops.specs.Loop.{sum};
+ghost use Rattle.loops.specs.Below.{sum};
 ghost use Rattle.bits.specs.Bit.{bit};
 ghost use Rattle.sets.specs.Sets.{inRow};
 ghost use Rattle.optimum.specs.Solve.{place, join, partners, gap};
-ghost use Rattle.solution.specs.Asked.{covers, costAt, undercuts, Ranks, Falling, Rising, Ends, Mated};
+ghost use Rattle.solution.specs.Asked.{covers, undercuts, Ranks, RanksFall, RanksRise, Ends, MatesRanked};
+ghost use Rattle.graph.specs.Rank.{costAt};
 use ids::Edge;
 use ids::Node;
 use ids::SpareRank;
@@ -22,7 +23,7 @@ fn covered(e: Edge, end1: &[u32; 256], end2: &[u32; 256], mask: &[u64; 64]) -> u
     let k = e.0 as usize;
     let a = end1[k];
     let b = end2[k];
-    tree::crossing(mask, Node(a), Node(b))
+    paths::crossing(mask, Node(a), Node(b))
 }
 
 // Puts a spare rank into the rows of a set of tree ranks.
@@ -35,14 +36,14 @@ fn fill(spare: SpareRank, trees: u64, rows: &mut [u64; 256])
     let mut left = trees;
     while left != 0 {
         let t = bits::lowest(left);
-        sets::insert_in_row(rows, t, s);
+        set_rows::insert_in_row(rows, t, s);
         left = bits::without_lowest(left);
     }
 }
 
 // How many of the first `limit` tree ranks cost more than x. Costs fall by rank: these are the lowest ranks.
 fn dearer(limit: u32, x: u32, cost: &[u32; 256], ts: &[u32; 256]) -> u32
-    requires { ⌜ Ranks limit (now ts) × Falling limit (now cost) (now ts) ⌝ }
+    requires { ⌜ Ranks limit (now ts) × RanksFall limit (now cost) (now ts) ⌝ }
     ensures few { λ r. ⌜ r ≤ limit ⌝ }
     ensures ranks { λ r. ⌜ ((t : ℕ) → t < limit → ltb x (costAt (now (cost .entry)) (now (ts .entry)) t) ≡ ltb t r) ⌝ }
 {
@@ -71,8 +72,8 @@ pub fn fill_rows(
     mask: &[u64; 64],
     rows: &mut [u64; 256],
 )
-    requires trees { ⌜ (trees < 64) × Ranks trees (now ts) × Falling trees (now cost) (now ts) ⌝ }
-    requires spares { ⌜ Ranks q (now ss) × Rising q (now cost) (now ss) ⌝ }
+    requires trees { ⌜ (trees < 64) × Ranks trees (now ts) × RanksFall trees (now cost) (now ts) ⌝ }
+    requires spares { ⌜ Ranks q (now ss) × RanksRise q (now cost) (now ss) ⌝ }
     requires ends { ⌜ Ends q (now ss) (now end1) (now end2) ⌝ }
     requires empty { ⌜ now rows ≡ replicate 256 0 ⌝ }
     ensures members { λ r. ⌜ ((t s : ℕ) → t < trees → s < 256 → inRow (now (rows .exit)) t s
@@ -100,7 +101,8 @@ pub fn place(ranks: &[u32; 256], count: usize, label: &[u32], costs: &mut [u32; 
     requires ranks { ⌜ Ranks count (now ranks) ⌝ }
     requires labels { ⌜ count ≤ length (now label) ⌝ }
     requires length { ⌜ length (now costs) ≡ 256 ⌝ }
-    ensures costs { λ r. ⌜ (λ e. getD (now (costs .exit)) e 0) ≡ place (take count (now (ranks .entry))) (λ k. getD (now (label .entry)) k 0) (λ e. getD (now (costs .entry)) e 0) ⌝ }
+    ensures costs { λ r. ⌜ (λ e. getD (now (costs .exit)) e 0) ≡ place (take count (now (ranks .entry))) (λ k. getD (now (label .entry)) k 0)
+        (λ e. getD (now (costs .entry)) e 0) ⌝ }
     ensures length { λ r. ⌜ length (now (costs .exit)) ≡ 256 ⌝ }
 {
     let mut k: usize = 0;
@@ -135,7 +137,7 @@ pub fn partners(
     mate: &mut [u32; 256],
 )
     requires spares { ⌜ Ranks q (now ss) ⌝ }
-    requires trees { ⌜ Mated q (now mates) (now ts) ⌝ }
+    requires trees { ⌜ MatesRanked q (now mates) (now ts) ⌝ }
     requires empty { ⌜ now mate ≡ replicate 256 0 ⌝ }
     ensures mate { λ r. ⌜ ((p : ℕ) → ((s : ℕ) → s < q → getD (now (mates .entry)) s 0 ≤ p)
         → (λ e. getD (now (mate .exit)) e 0) ≡ partners (take p (now (ts .entry))) (take q (now (ss .entry))) (λ s. getD (now (mates .entry)) s 0)) ⌝ }

@@ -5,9 +5,9 @@ use mathlib.Core.List.{List}
 use lib.ListN.{getD, take}
 use Rattle.optimum.specs.Solve.{place}
 use Rattle.optimum.specs.Lowest.{labels}
-use Rattle.search.specs.State.{matesOf}
+use Rattle.search.specs.State.{arrayMates}
 use Rattle.labels.specs.Store.{Labelled}
-use Rattle.job.specs.Held.{zeros, zero-at}
+use Rattle.links.specs.ColumnLaws.{zeros, zero-at}
 use Rattle.solve.specs.Solving.{Costed}
 
 pub costed :
@@ -23,9 +23,9 @@ costed trees spares cost ts ss rows mates mates′ tl sl costs₀ costs₁ costs
       same = l .same;
       new = λ p n h.
           let zero-start : _≡_ {A = ℕ → ℕ} (λ e. getD costs₀ e 0) (λ _. 0) = fun-ext (λ e. ap (λ (c : List ℕ). getD c e 0) z ∙ zero-at 256 e) in
-          let tree-labels : _≡_ {A = ℕ → ℕ} (λ k. getD tl k 0) (labels p (matesOf mates) .treeLabel) = fun-ext (l .tree-labels p n h) in
-          let tree-part : _≡_ {A = ℕ → ℕ} (λ e. getD costs₁ e 0) (place (take trees ts) (labels p (matesOf mates) .treeLabel) (λ _. 0)) =
+          let tree-labels : _≡_ {A = ℕ → ℕ} (λ k. getD tl k 0) (labels p (arrayMates mates) .treeLabel) = fun-ext (l .tree-labels p n h) in
+          let tree-part : _≡_ {A = ℕ → ℕ} (λ e. getD costs₁ e 0) (place (take trees ts) (labels p (arrayMates mates) .treeLabel) (λ _. 0)) =
           e₁ ∙ (λ i. place (take trees ts) (tree-labels i) (zero-start i)) in
-          let spare-labels : _≡_ {A = ℕ → ℕ} (λ k. getD sl k 0) (labels p (matesOf mates) .spareLabel) = fun-ext (l .spare-labels p n h) in
+          let spare-labels : _≡_ {A = ℕ → ℕ} (λ k. getD sl k 0) (labels p (arrayMates mates) .spareLabel) = fun-ext (l .spare-labels p n h) in
           e₂ ∙ (λ i. place (take spares ss) (spare-labels i) (tree-part i));
     }

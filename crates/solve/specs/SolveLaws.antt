@@ -8,10 +8,11 @@ use lib.Dec.{leb, ltb, eqb}
 use lib.ListN.{length, getD, take}
 use lib.Seq.{getD-take}
 use borrow.Author.Tests.{lt-ltb, le-ltb}
-use Rattle.loops.specs.Loop.{sum, gather, tabulate}
+use Rattle.loops.specs.Below.{sum}
+use Rattle.loops.specs.Loop.{gather, tabulate}
 use Rattle.sets.specs.Sets.{inRow}
-use Rattle.graph.specs.Graph.{Graph, EdgeSet}
-use Rattle.graph.specs.Rank.{sorted, members, spareOf, treeRanks, spareRanks}
+use Rattle.graph.specs.Graph.{Graph, EdgeSet, spareOf}
+use Rattle.graph.specs.Rank.{sorted, members, treeRanks, spareRanks, costAt}
 use Rattle.graph.specs.CountLaws.{count-below}
 use Rattle.graph.specs.RankLaws.{tree-lists, spare-lists, tree-falls, spare-rises}
 use Rattle.graph.specs.Paths.{rooted, coversRank}
@@ -23,12 +24,14 @@ use Rattle.frame.specs.Job.{Job, link, graphOf, treeOf, costOf}
 use Rattle.frame.specs.Answers.{answerOf}
 use Rattle.frame.specs.Meaning.{Accepted}
 use Rattle.frame.specs.OwnAnswer.{own, own-layout}
-use Rattle.tree.specs.Arrays.{paths}
+use Rattle.paths.specs.Arrays.{paths}
 use Rattle.ranks.specs.Keys.{spareList}
-use Rattle.search.specs.State.{matesOf}
-use Rattle.matching.specs.Progress.{costAt, Edges, Holds, Built}
-use Rattle.answer.specs.Contents.{costsAt, pairsOf, answerAt, Listed}
-use Rattle.solution.specs.Asked.{covers, undercuts, Falling, Rising, Ends}
+use Rattle.search.specs.State.{arrayMates}
+use Rattle.matching.specs.Progress.{Edges, Holds, Built}
+use Rattle.codec.specs.Numbers.{numbersAt}
+use Rattle.codec.specs.Held.{answerAt}
+use Rattle.answer.specs.Contents.{matePairs, PairsListed}
+use Rattle.solution.specs.Asked.{covers, undercuts, RanksFall, RanksRise, Ends}
 use Rattle.accept.specs.Accepting.{Held}
 use Rattle.solve.specs.Solving.{Costed}
 use Rattle.accept.specs.HeldLaws.{graph-held}
@@ -62,7 +65,7 @@ module _ (j : Job) (as₁ as₂ as₃ as₄ ts mask : List ℕ) (h : Held j as�
   tree-price : (t : ℕ) → t < j .nodes - 1 → c (getD treeList′ t 0) ≡ costAt as₃ ts t
   tree-price t l = ap c (sym (tree-at t l)) ∙ sym (ap (λ (f : ℕ → ℕ). f (getD ts t 0)) (h .cost))
 
-  pub tree-order : Falling (j .nodes - 1) as₃ ts
+  pub tree-order : RanksFall (j .nodes - 1) as₃ ts
   tree-order t t′ l b =
       omega (arith, tree-price t (omega arith), tree-price t′ b, tree-falls g tr c t t′ l (omega (arith, tree-count)))
 
@@ -95,7 +98,7 @@ module _ (j : Job) (as₁ as₂ as₃ as₄ ts mask : List ℕ) (h : Held j as�
     spare-price : (s : ℕ) → s < q → c (getD spareList′ s 0) ≡ costAt as₃ ss s
     spare-price s l = ap c (sym (spare-at s l)) ∙ sym (ap (λ (f : ℕ → ℕ). f (getD ss s 0)) (h .cost))
 
-    pub spare-order : Rising q as₃ ss
+    pub spare-order : RanksRise q as₃ ss
     spare-order s s′ l b =
         omega (arith, spare-price s (omega arith), spare-price s′ b, spare-rises g tr c s s′ l (omega (arith, ss-count)))
 
@@ -140,8 +143,11 @@ module _ (j : Job) (as₁ as₂ as₃ as₄ ts mask : List ℕ) (h : Held j as�
           }
 
       -- What the matching, the labels and the partners then are.
-      module _ (mates taken mates′ costs mate : List ℕ) (built : Built (j .nodes - 1) q as₃ ts ss rows mates taken) (costed : Costed (j .nodes - 1) q as₃ ts ss rows mates mates′ costs) (joined : (p : ℕ) → ((s : ℕ) → s < q → getD mates′ s 0 ≤ p) → _≡_ {A = ℕ → ℕ} (λ e. getD mate e 0) (partners (take p ts) (take q ss) (λ s. getD mates′ s 0))) where
-        mates-are : matesOf mates ≡ matching pr
+      module _ (mates taken mates′ costs mate : List ℕ) (built : Built (j .nodes - 1) q as₃ ts ss rows mates taken)
+          (costed : Costed (j .nodes - 1) q as₃ ts ss rows mates mates′ costs)
+          (joined : (p : ℕ) → ((s : ℕ) → s < q → getD mates′ s 0 ≤ p) → _≡_ {A = ℕ → ℕ} (λ e. getD mate e 0)
+          (partners (take p ts) (take q ss) (λ s. getD mates′ s 0))) where
+        mates-are : arrayMates mates ≡ matching pr
         mates-are = built .equal pr tree-count holds
 
         new-are : _≡_ {A = ℕ → ℕ} (λ e. getD costs e 0) (newCosts treeList′ spareList′ (labels pr (matching pr)))
@@ -154,19 +160,23 @@ module _ (j : Job) (as₁ as₂ as₃ as₄ ts mask : List ℕ) (h : Held j as�
         unfolding solve
         steps-are i = sum (pm i) (λ e. gap (new-are i e) (h .cost i e))
 
-        pub pairs-are : pairsOf m mate ≡ answerOf j .pairs
+        pub pairs-are : matePairs m mate ≡ answerOf j .pairs
         unfolding solve
         pairs-are i = gather (pm i) (λ e. pairAt e (mate-are i e))
 
-        pub costs-are : costsAt m costs ≡ answerOf j .costs
+        pub costs-are : numbersAt m costs ≡ answerOf j .costs
         unfolding solve
         costs-are i = tabulate (pm i) (new-are i)
 
-        pub few-pairs : length (pairsOf m mate) ≤ 64
+        pub few-pairs : length (matePairs m mate) ≤ 64
         few-pairs = omega (arith, ap length pairs-are, pairs-few (own j a), a .tree .size, a .node-limit)
 
         pub small-steps : sum m (λ e. gap (getD costs e 0) (getD as₃ e 0)) < 128 ^ 3
         small-steps = omega (arith, steps-are, own-layout j a .step-limit)
 
-        pub answer-is : (steps count : ℕ) (pt ps : List ℕ) → steps ≡ sum m (λ e. gap (getD costs e 0) (getD as₃ e 0)) → Listed (pairsOf m mate) count pt ps → answerAt steps m costs count pt ps ≡ answerOf j
-        answer-is steps count pt ps e l i = record { steps = (e ∙ steps-are) i; costs = costs-are i; pairs = (l .pairs ∙ pairs-are) i }
+        pub answer-is :
+            (steps count : ℕ) (ps : List ℕ) →
+            steps ≡ sum m (λ e. gap (getD costs e 0) (getD as₃ e 0)) →
+            PairsListed (matePairs m mate) count ps →
+            answerAt steps m costs count ps ≡ answerOf j
+        answer-is steps count ps e l i = record { steps = (e ∙ steps-are) i; costs = costs-are i; pairs = (l .pairs ∙ pairs-are) i }

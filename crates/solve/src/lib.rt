@@ -17,7 +17,8 @@ fn new_costs(
     costs: &mut [u32; 256],
 )
     requires { ⌜ Costable trees spares (now cost) (now ts) (now ss) (now taken) (now mates) (now «spare_label») (now costs) ⌝ }
-    ensures { λ r. ⌜ Costed trees spares (now (cost .entry)) (now (ts .entry)) (now (ss .entry)) (now (rows .entry)) (now (mates .entry)) (now (mates .exit)) (now (costs .exit)) ⌝ }
+    ensures { λ r. ⌜ Costed trees spares (now (cost .entry)) (now (ts .entry)) (now (ss .entry)) (now (rows .entry)) (now (mates .entry)) (now (mates .exit))
+        (now (costs .exit)) ⌝ }
 {
     let mut tree_label = [0u32; 64];
     labels::label(
@@ -54,11 +55,11 @@ pub fn solve(
     ts: &[u32; 256],
     mask: &[u64; 64],
     costs: &mut [u32; 256],
-    pair_tree: &mut [u32; 64],
-    pair_spare: &mut [u32; 64],
+    pairs: &mut [u32; 128],
 ) -> Solved
-    requires { ⌜ Solvable nodes edges (now end1) (now end2) (now cost) (now mark) (now ts) (now mask) (now costs) (now «pair_tree») (now «pair_spare») ⌝ }
-    ensures { λ r. ⌜ SolvedAs nodes edges (now (end1 .entry)) (now (end2 .entry)) (now (cost .entry)) (now (mark .entry)) (now (ts .entry)) (now (mask .entry)) (r .steps) (r .count) (now (costs .exit)) (now («pair_tree» .exit)) (now («pair_spare» .exit)) ⌝ }
+    requires { ⌜ Solvable nodes edges (now end1) (now end2) (now cost) (now mark) (now ts) (now mask) (now costs) (now pairs) ⌝ }
+    ensures { λ r. ⌜ SolvedAs nodes edges (now (end1 .entry)) (now (end2 .entry)) (now (cost .entry)) (now (mark .entry)) (now (ts .entry))
+        (now (mask .entry)) (r .steps) (r .count) (now (costs .exit)) (now (pairs .exit)) ⌝ }
 {
     let trees = nodes - 1;
     let mut ss = [0u32; 256];
@@ -96,7 +97,7 @@ pub fn solve(
     *mate = [0u32; 256];
     solution::partners(ts, &ss, spares, mates, mate);
     let steps = solution::steps(edges, cost, costs);
-    let count = answer::write::list_pairs(edges, mate, pair_tree, pair_spare);
+    let count = answer::list_pairs(edges, mate, pairs);
     Solved {
         steps: steps as u32,
         count: count,

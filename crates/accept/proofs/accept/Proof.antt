@@ -1,6 +1,6 @@
 -- `accept::accept` meets its contract: the form is asked first, then the tree over the arrays. Assumes nothing.
 use mathlib.Core.Path.{_≡_, _∙_}
-use Rattle.leb128.specs.Number.{Bytes}
+use Rattle.number.specs.Number.{Bytes}
 use Rattle.frame.specs.Questions.{jobOf, formRefusal}
 use Rattle.accept.specs.Accepting.{StoredAs}
 use Rattle.accept.specs.AcceptLaws.{form-number, accept-refused, refused-nonzero, header-nodes, header-edges, tree-refused, tree-accepted}
@@ -14,20 +14,25 @@ bytes : (k : tie.Else1) → Bytes (k .before .before .before .before .before .be
 bytes k i = k .before .before .before .before .before .before .shared-slice-known .given i .fits
 
 good : (k : tie.Else1) → formRefusal (k .before .before .before .before .before .before .before .args .frame .now) ≡ 0
-good k = form-number (k .before .before .before .before .before .before .before .args .frame .now) (k .before .read-job .result) (k .before .read-job .ensures .0) ∙ k .if1 .left
+good k =
+    form-number (k .before .before .before .before .before .before .before .args .frame .now) (k .before .load-job .result) (k .before .load-job .ensures .0) ∙
+    k .if1 .left
 
 kept :
     (k : tie.Else1) →
-    let r = k .before .read-job in
+    let r = k .before .load-job in
     let l = r .last .1 in
-    StoredAs (jobOf (k .before .before .before .before .before .before .before .args .frame .now)) (r .result .nodes) (r .result .edges) (l .0) (l .1 .0) (l .1 .1 .0) (l .1 .1 .1 .0)
+    StoredAs (jobOf (k .before .before .before .before .before .before .before .args .frame .now)) (r .result .nodes) (r .result .edges) (l .0) (l .1 .0)
+    (l .1 .1 .0) (l .1 .1 .1 .0)
 kept k =
     let st = k .before .before .before .before .before .before .before in
     let a = st .args in
-    let r = k .before .read-job in
+    let r = k .before .load-job in
     let l = r .last .1 in
     record {
-      stored = stored (a .frame .now) (a .end1 .now) (a .end2 .now) (a .cost .now) (a .mark .now) (a .ts .now) (l .0) (l .1 .0) (l .1 .1 .0) (l .1 .1 .1 .0) (bytes k) (good k) (st .pre) (r .ensures .1 (k .if1 .left));
+      stored =
+          stored (a .frame .now) (a .end1 .now) (a .end2 .now) (a .cost .now) (a .mark .now) (a .ts .now) (l .0) (l .1 .0) (l .1 .1 .0) (l .1 .1 .1 .0)
+          (bytes k) (good k) (st .pre) (r .ensures .1 (k .if1 .left));
       nodes-are = header-nodes (a .frame .now) (r .result) (r .ensures .0) (bytes k) (k .if1 .left);
       edges-are = header-edges (a .frame .now) (r .result) (r .ensures .0) (bytes k) (k .if1 .left);
     }
@@ -35,14 +40,14 @@ kept k =
 abbrev form-of : tie.After-tree-refusal → tie.Else1
 form-of t = t .before .before .before .before .before .before .before .before
 
-read-job-requires : tie.Need-read-job-requires
-read-job-requires c κs = empty-places (c .before .before .before .before .before .pre)
+load-job-requires : tie.Need-load-job-requires
+load-job-requires c κs = empty-places (c .before .before .before .before .before .pre)
 
 returns : tie.Need-returns
 returns c =
     let r = c .before in
     let a = r .before .before .before .before .before .before .args in
-    (accept-refused (a .frame .now) (r .read-job .result) (r .read-job .ensures .0) (c .if1 .taken), λ z. absurd (c .if1 .taken z))
+    (accept-refused (a .frame .now) (r .load-job .result) (r .load-job .ensures .0) (c .if1 .taken), λ z. absurd (c .if1 .taken z))
 
 cast-edges : tie.Need-cast-edges
 cast-edges c = search needs
@@ -59,24 +64,30 @@ returns-2 : tie.Need-returns-2
 returns-2 c =
     let t = c .before .before in
     let k = form-of t in
-    let r = k .before .read-job in
+    let r = k .before .load-job in
     let a = k .before .before .before .before .before .before .before .args in
-    let n = c .before .if2 .taken in
-    (c .refused .ensures ∙ tree-refused (a .frame .now) (r .result) (r .ensures .0) (bytes k) (k .if1 .left) (t .tree-refusal .result) (t .tree-refusal .ensures .0 _ (kept k)) n, λ z. absurd (refused-nonzero (c .refused .result) (t .tree-refusal .result) (c .refused .ensures) n z))
+    let n = c .before .if2 .taken in (
+      c .refused .ensures ∙ tree-refused (a .frame .now) (r .result) (r .ensures .0) (bytes k) (k .if1 .left) (t .tree-refusal .result)
+          (t .tree-refusal .ensures .0 _ (kept k)) n,
+      λ z. absurd (refused-nonzero (c .refused .result) (t .tree-refusal .result) (c .refused .ensures) n z),
+    )
 
 returns-3 : tie.Need-returns-3
 returns-3 c =
     let t = c .before in
     let k = form-of t in
-    let r = k .before .read-job in
-    let a = k .before .before .before .before .before .before .before .args in
-    (tree-accepted (a .frame .now) (r .result) (r .ensures .0) (bytes k) (k .if1 .left) (t .tree-refusal .result) (t .tree-refusal .ensures .0 _ (kept k)) (c .if2 .left), λ _. t .tree-refusal .ensures .1 _ (kept k) (c .if2 .left))
+    let r = k .before .load-job in
+    let a = k .before .before .before .before .before .before .before .args in (
+      tree-accepted (a .frame .now) (r .result) (r .ensures .0) (bytes k) (k .if1 .left) (t .tree-refusal .result) (t .tree-refusal .ensures .0 _ (kept k))
+          (c .if2 .left),
+      λ _. t .tree-refusal .ensures .1 _ (kept k) (c .if2 .left),
+    )
 
 pub accept-spec : {M : Type 1} → statement M
 accept-spec =
     tie.close
     (tie.spec
-    read-job-requires
+    load-job-requires
     returns
     cast-edges
     tree-refusal-requires

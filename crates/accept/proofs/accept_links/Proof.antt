@@ -5,14 +5,15 @@ use native.Mathlib.Omega.{arith}
 use lib.ListN.{take, length-map}
 use lib.Seq.{length-take-le}
 use Rattle.frame.specs.Job.{Job}
-use Rattle.frame.specs.Services.{listRefusal}
-use Rattle.job.specs.Writing.{jobAt}
-use Rattle.accept.specs.Accepting.{Held, refusedHeader}
+use Rattle.frame.specs.Questions.{listRefusal}
+use Rattle.links.specs.Columns.{jobAt}
+use Rattle.accept.specs.Accepting.{Held}
+use Rattle.job.specs.Reading.{refusedHeader}
 use Rattle.accept.specs.Lists.{ListHeld}
 use Rattle.accept.specs.AcceptLaws.{refused-nonzero}
 use Rattle.accept.specs.ArrayLaws.{empty-places}
-use Rattle.accept.specs.ListJobs.{edgeOf, listJob, countRefusal}
-use Rattle.accept.specs.ListJobLaws.{count-few, columns-held, columns-job}
+use Rattle.accept.specs.ListJobs.{jobLink, listJob, countRefusal}
+use Rattle.accept.specs.ListJobLaws.{list-count-few, columns-held, columns-job}
 use Rattle.accept.specs.ListAcceptLaws.{list-refused, list-held, some-held}
 use borrow.Author.Needs.{needs}
 use Rattle.accept.proofs.accept_links.Statement.{statement}
@@ -23,16 +24,19 @@ passed : (k : tie.Else1) → let a = k .before .before .args in countRefusal (a 
 passed k = sym (k .before .count-refusal .ensures) ∙ k .if1 .left
 
 few : (k : tie.Else1) → k .before .before .args .count ≤ 256
-few k = let a = k .before .before .args in count-few (a .nodes) (a .count) (a .small) (passed k)
+few k = let a = k .before .before .args in list-count-few (a .nodes) (a .count) (a .small) (passed k)
 
 -- the links are in the arrays
-held : (s : tie.After-spread) → let l = s .spread .last .1 .1 in ListHeld (s .before .before .before .before .before .before .before .args .count) (l .0) (l .1 .0) (l .1 .1 .0) (l .1 .1 .1 .0)
+held :
+    (s : tie.After-spread) →
+    let l = s .spread .last .1 .1 in ListHeld (s .before .before .before .before .before .before .before .args .count) (l .0) (l .1 .0) (l .1 .1 .0) (l .1 .1 .1 .0)
 held s =
     let st = s .before .before .before .before .before .before .before in
     let a = st .args in
     let l = s .spread .last .1 .1 in
     let e = s .spread .ensures in
-    columns-held (a .count) (a .links) (a .end1 .now) (a .end2 .now) (a .cost .now) (a .mark .now) (a .ts .now) (l .0) (l .1 .0) (l .1 .1 .0) (l .1 .1 .1 .0) (st .good .1 .1 .1 .0 .1 .0 .1) (st .pre) (e .0) (e .1 .0) (e .1 .1 .0) (e .1 .1 .1)
+    columns-held (a .count) (a .links) (a .end1 .now) (a .end2 .now) (a .cost .now) (a .mark .now) (a .ts .now) (l .0) (l .1 .0) (l .1 .1 .0) (l .1 .1 .1 .0)
+    (st .good .1 .1 .1 .0 .1 .0 .1) (st .pre) (e .0) (e .1 .0) (e .1 .1 .0) (e .1 .1 .1)
 
 job :
     (s : tie.After-spread) →
@@ -44,7 +48,8 @@ job s =
     let a = st .args in
     let l = s .spread .last .1 .1 in
     let e = s .spread .ensures in
-    columns-job (a .count) (a .links) (a .end1 .now) (a .end2 .now) (a .cost .now) (a .mark .now) (a .ts .now) (l .0) (l .1 .0) (l .1 .1 .0) (l .1 .1 .1 .0) (st .good .1 .1 .1 .0 .1 .0 .1) (st .pre) (e .0) (e .1 .0) (e .1 .1 .0) (e .1 .1 .1)
+    columns-job (a .count) (a .links) (a .end1 .now) (a .end2 .now) (a .cost .now) (a .mark .now) (a .ts .now) (l .0) (l .1 .0) (l .1 .1 .0) (l .1 .1 .1 .0)
+    (st .good .1 .1 .1 .0 .1 .0 .1) (st .pre) (e .0) (e .1 .0) (e .1 .1 .0) (e .1 .1 .1)
     (few (s .before .before .before .before .before)) (a .nodes)
 
 -- the refusal that was found is that of the job
@@ -77,7 +82,10 @@ spread-requires c κs =
     (p .end₁, p .end₂, p .cost, p .mark)
 
 accept-list-requires : tie.Need-accept-list-requires
-accept-list-requires c κs = (held (c .before .before .before .before .before .before), c .before .before .before .before .before .before .before .before .before .before .before .before .before .pre .ranks)
+accept-list-requires c κs = (
+  held (c .before .before .before .before .before .before),
+  c .before .before .before .before .before .before .before .before .before .before .before .before .before .pre .ranks,
+)
 
 refused-requires-2 : tie.Need-refused-requires-2
 refused-requires-2 c κs = search needs
@@ -90,7 +98,9 @@ returns-2 c =
     let n = c .before .if2 .taken in (
       record {
         refused = λ w. absurd (w (passed k));
-        said = λ _. list-refused (listJob (a .nodes) (take (a .count) (a .links))) (t .accept-list .result) (c .refused2 .result) _ _ _ _ _ _ (number t) n (c .refused2 .ensures);
+        said =
+            λ _. list-refused (listJob (a .nodes) (take (a .count) (a .links))) (t .accept-list .result) (c .refused2 .result) _ _ _ _ _ _ (number t) n
+            (c .refused2 .ensures);
       },
       λ z. absurd (refused-nonzero (c .refused2 .result) (t .accept-list .result) (c .refused2 .ensures) n z),
     )
@@ -111,7 +121,7 @@ returns-3 c =
     let z = c .if2 .left in
     let kept = t .accept-list .ensures .1 z in
     let found = t .accept-list .last .1 .1 .1 .1 .1 .1 in
-    let size = length-map (take (a .count) (a .links)) edgeOf ∙ length-take-le (a .count) (a .links) (omega (arith, few k, st .good .1 .1 .1 .0 .1 .0 .1)) in (
+    let size = length-map (take (a .count) (a .links)) jobLink ∙ length-take-le (a .count) (a .links) (omega (arith, few k, st .good .1 .1 .1 .0 .1 .0 .1)) in (
       record {
         refused = λ w. absurd (w (passed k));
         said = λ _.

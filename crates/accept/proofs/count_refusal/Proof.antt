@@ -32,7 +32,8 @@ returns-5 c =
     let m = w .before in
     let n = m .before in
     let a = n .before .args in
-    count-passed (a .nodes) (a .count) (a .small) (omega (arith, n .if1 .left)) (omega (arith, m .if2 .left)) (not-false _ (w .if3 .left)) (omega (arith, c .if4 .left))
+    count-passed (a .nodes) (a .count) (a .small) (omega (arith, n .if1 .left)) (omega (arith, m .if2 .left)) (not-false _ (w .if3 .left))
+    (omega (arith, c .if4 .left))
 
 pub count-refusal-spec : {M : Type 1} → statement M
 count-refusal-spec = tie.close (tie.spec returns returns-2 returns-3 returns-4 returns-5)

@@ -38,7 +38,8 @@ returns-2 c =
     let t = q .before .before .before .before in
     let e = t .tree-ranks .ensures in (
       λ j k.
-          tree-wrong k (t .tree-ranks .result) (t .tree-ranks .last .1 .1 .1 .0) (e .0) (e .1 .0) (e .1 .1) (q .before .before .before .if1 .left) (q .question6 .result) (q .question6 .ensures .0)
+          tree-wrong k (t .tree-ranks .result) (t .tree-ranks .last .1 .1 .1 .0) (e .0) (e .1 .0) (e .1 .1) (q .before .before .before .if1 .left)
+          (q .question6 .result) (q .question6 .ensures .0)
           (not-true _ (c .if2 .taken)),
       λ j k z. absurd (omega (arith, z)),
     )
@@ -50,9 +51,11 @@ returns-3 c =
     let e = t .tree-ranks .ensures in
     let yes = not-false _ (c .if2 .left) in (
       λ j k.
-          tree-right k (t .tree-ranks .result) (t .tree-ranks .last .1 .1 .1 .0) (e .0) (e .1 .0) (e .1 .1) (q .before .before .before .if1 .left) (q .question6 .result) (q .question6 .ensures .0) yes,
+          tree-right k (t .tree-ranks .result) (t .tree-ranks .last .1 .1 .1 .0) (e .0) (e .1 .0) (e .1 .1) (q .before .before .before .if1 .left)
+          (q .question6 .result) (q .question6 .ensures .0) yes,
       λ j k _.
-          tree-held k (t .tree-ranks .result) (t .tree-ranks .last .1 .1 .1 .0) (e .0) (e .1 .0) (e .1 .1) (q .before .before .before .if1 .left) (q .question6 .last .1 .1 .1 .1 .1 .0)
+          tree-held k (t .tree-ranks .result) (t .tree-ranks .last .1 .1 .1 .0) (e .0) (e .1 .0) (e .1 .1) (q .before .before .before .if1 .left)
+          (q .question6 .last .1 .1 .1 .1 .1 .0)
           (q .question6 .ensures .1 yes),
     )
 

@@ -7,7 +7,8 @@ use Rattle.answering.proofs.answer.Tie as tie
 asked :
     (t : tie.After-accept) →
     let l = t .accept .last .1 in
-    Asked (t .before .before .before .before .before .before .before .before .before .args .frame .now) (t .accept .result) (l .0) (l .1 .0) (l .1 .1 .0) (l .1 .1 .1 .0) (l .1 .1 .1 .1 .0) (l .1 .1 .1 .1 .1 .0)
+    Asked (t .before .before .before .before .before .before .before .before .before .args .frame .now) (t .accept .result) (l .0) (l .1 .0) (l .1 .1 .0)
+    (l .1 .1 .1 .0) (l .1 .1 .1 .1 .0) (l .1 .1 .1 .1 .1 .0)
 asked t =
     record {
       bytes = λ i. t .before .before .before .before .before .before .before .before .shared-slice-known .given i .fits;

@@ -3,9 +3,10 @@
 use Prim.Native.Nat.{ℕ}
 use mathlib.Core.Path.{refl, sym, ap, _∙_}
 use Rattle.frame.specs.Questions.{jobOf}
-use Rattle.frame.specs.Answers.{answerFrame, answerOf}
+use Rattle.frame.specs.Answers.{answerOf}
+use Rattle.frame.specs.AnswerMeaning.{answerFrame}
 use Rattle.frame.specs.Services.{written}
-use Rattle.job.specs.WritingLaws.{written-refused}
+use Rattle.codec.specs.WritingLaws.{put-refused}
 use Rattle.accept.specs.AskedLaws.{asked-number, asked-accepted, asked-nodes, asked-edges, few-links}
 use Rattle.answering.specs.AnswerLaws.{answered-of}
 use borrow.Author.Needs.{needs}
@@ -17,7 +18,9 @@ returns c =
     let a = c .before .before .args in (
       λ s k.
           let bytes = answerFrame (answerOf (jobOf s)) in
-          answered-of s (a .area .now) (k .bytes) _ _ (written-refused (a .header .refusal) bytes 0 (a .area .now) (c .if1 .taken) ∙ ap (λ (r : ℕ). written r bytes 0 (a .area .now)) (sym (asked-number k))),
+          answered-of s (a .area .now) (k .bytes) _ _
+          (put-refused (a .header .refusal) bytes 0 (a .area .now) (c .if1 .taken) ∙
+          ap (λ (r : ℕ). written r bytes 0 (a .area .now)) (sym (asked-number k))),
       λ _. record { number = refl; nothing = refl; same = refl },
     )
 
@@ -26,7 +29,7 @@ cast-edges c = search needs
 
 solve-requires : tie.Need-solve-requires
 solve-requires c κs =
-    let e = c .before .before .before .before .before .before .before in
+    let e = c .before .before .before .before .before .before in
     let z = e .if1 .left in
     let (s, k) = e .before .before .pre z in
     record {
@@ -36,14 +39,13 @@ solve-requires c κs =
       nodes-are = asked-nodes k z;
       edges-are = asked-edges k z;
       empty = refl;
-      tree-places = refl;
-      spare-places = refl;
+      places = refl;
     }
 
 write-answer-requires : tie.Need-write-answer-requires
 write-answer-requires c κs =
-    let v = c .before .before .before .before in
-    let e = v .before .before .before .before .before .before .before .before in
+    let v = c .before .before .before in
+    let e = v .before .before .before .before .before .before .before in
     let z = e .if1 .left in
     let (s, k) = e .before .before .pre z in
     λ _. (few-links k z, v .solve .ensures .few)
@@ -54,13 +56,14 @@ same-length c = search needs
 returns-2 : tie.Need-returns-2
 returns-2 c =
     let w = c .before .before in
-    let v = w .before .before .before .before .before in
-    let e = v .before .before .before .before .before .before .before .before in
+    let v = w .before .before .before .before in
+    let e = v .before .before .before .before .before .before .before in
     let a = e .before .before .args in
     let z = e .if1 .left in (
       λ s k.
           let is = v .solve .ensures .answer (jobOf s) (k .held z) (asked-accepted k z) (asked-nodes k z) (asked-edges k z) in
-          answered-of s (a .area .now) (k .bytes) _ _ (w .write-answer .ensures ∙ (λ i. written ((sym (asked-number k ∙ z)) i) (answerFrame (is i)) 0 (a .area .now))),
+          answered-of s (a .area .now) (k .bytes) _ _
+          (w .write-answer .ensures ∙ (λ i. written ((sym (asked-number k ∙ z)) i) (answerFrame (is i)) 0 (a .area .now))),
       λ n. absurd (n z),
     )
 

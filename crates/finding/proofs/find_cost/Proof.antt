@@ -1,6 +1,6 @@
 -- `finding::find_cost` meets its contract: the part at the place that was found. Assumes nothing.
 use native.Mathlib.Omega.{arith}
-use Rattle.job.specs.Finding.{placeOf}
+use Rattle.codec.specs.Numbers.{placeOf}
 use Rattle.finding.specs.Parts.{CostFound}
 use Rattle.finding.specs.PartLaws.{between-ends}
 use borrow.Author.Needs.{needs}
@@ -23,7 +23,10 @@ part-result-end : tie.Need-part-result-end
 part-result-end c = c .before .locate-cost .ensures .within
 
 returns : tie.Need-returns
-returns c = between-ends (CostFound (c .before .before .before .before .before .args .frame .now) (c .before .before .before .before .before .args .offered .now) (c .before .before .before .before .before .args .edge .0)) (c .before .before .before .before .before .args .offered .now) (placeOf (c .before .before .locate-cost .result)) (c .before .before .locate-cost .ensures .found)
+returns c =
+    between-ends (CostFound (c .before .before .before .before .before .args .frame .now) (c .before .before .before .before .before .args .offered .now)
+    (c .before .before .before .before .before .args .edge .0)) (c .before .before .before .before .before .args .offered .now) (placeOf
+    (c .before .before .locate-cost .result)) (c .before .before .locate-cost .ensures .found)
 
 pub find-cost-spec : {M : Type 1} → statement M
 find-cost-spec =

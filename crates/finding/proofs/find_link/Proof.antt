@@ -1,6 +1,6 @@
 -- `finding::find_link` meets its contract: the part at the place that was found. Assumes nothing.
 use native.Mathlib.Omega.{arith}
-use Rattle.job.specs.Finding.{placeOf}
+use Rattle.codec.specs.Numbers.{placeOf}
 use Rattle.finding.specs.Parts.{LinkFound}
 use Rattle.finding.specs.PartLaws.{between-ends}
 use borrow.Author.Needs.{needs}
@@ -23,7 +23,9 @@ part-result-end : tie.Need-part-result-end
 part-result-end c = c .before .locate-link .ensures .within
 
 returns : tie.Need-returns
-returns c = between-ends (LinkFound (c .before .before .before .before .args .frame .now) (c .before .before .before .before .args .edge .0)) (c .before .before .before .before .args .frame .now) (placeOf (c .before .before .locate-link .result)) (c .before .before .locate-link .ensures .found)
+returns c =
+    between-ends (LinkFound (c .before .before .before .before .args .frame .now) (c .before .before .before .before .args .edge .0))
+    (c .before .before .before .before .args .frame .now) (placeOf (c .before .before .locate-link .result)) (c .before .before .locate-link .ensures .found)
 
 pub find-link-spec : {M : Type 1} → statement M
 find-link-spec =

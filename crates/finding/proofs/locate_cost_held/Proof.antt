@@ -4,7 +4,7 @@ use native.Mathlib.Omega.{arith}
 use mathlib.Core.Path.{_≡_, refl, sym, ap, _∙_}
 use mathlib.Core.Logic.{⊎-elim}
 use denote.Enum.Declared
-use Rattle.leb128.specs.Number.{Bytes}
+use Rattle.number.specs.Number.{Bytes}
 use Rattle.judging.specs.declared.Verdict.the-variants.{Yes}
 use Rattle.judging.proofs.Verdict.{the-type}
 use Rattle.accept.specs.AskedLaws.{asked-number, asked-edges}
@@ -47,21 +47,22 @@ returns-2 c =
       λ _. refl,
     )
 
-cast-locate-cost : tie.Need-cast-locate-cost
-cast-locate-cost c = search needs
+cast-cost-part : tie.Need-cast-cost-part
+cast-cost-part c = search needs
 
 -- the job was accepted
 accepted : (c : tie.After-enum-told) → let j = c .before .before in j .before .before .before .before .args .header .refusal ≡ 0
 accepted c = let j = c .before .before in yes-accepted _ _ (j .judge-answer-held .ensures .1) (c .enum-told .given .1)
 
-locate-cost-requires : tie.Need-locate-cost-requires
-locate-cost-requires c κs =
+cost-part-requires : tie.Need-cost-part-requires
+cost-part-requires c κs =
     let j = c .before .before in
     let t = j .before .before in
     let a = t .before .before .args in
     let z = accepted c in
     let (s, k) = t .before .before .pre z in
-    cost-in s (a .offered .now) (k .bytes) (bytes t) (a .edge .0) (omega (arith, j .before .if1 .left, asked-edges k z)) _ (j .judge-answer-held .ensures .0 s k) (c .enum-told .given .1)
+    cost-in s (a .offered .now) (k .bytes) (bytes t) (a .edge .0) (omega (arith, j .before .if1 .left, asked-edges k z)) _
+    (j .judge-answer-held .ensures .0 s k) (c .enum-told .given .1)
 
 returns-3 : tie.Need-returns-3
 returns-3 c =
@@ -71,8 +72,9 @@ returns-3 c =
     let a = t .before .before .args in
     let z = accepted o in (
       λ s k.
-          cost-handed s (a .offered .now) (k .bytes) (bytes t) (a .edge .0) (omega (arith, j .before .if1 .left, asked-edges k z)) _ (j .judge-answer-held .ensures .0 s k) (o .enum-told .given .1) _
-          (c .locate-cost .ensures .0) (c .locate-cost .ensures .1),
+          cost-handed s (a .offered .now) (k .bytes) (bytes t) (a .edge .0) (omega (arith, j .before .if1 .left, asked-edges k z)) _
+          (j .judge-answer-held .ensures .0 s k) (o .enum-told .given .1) _
+          (c .cost-part .ensures .0) (c .cost-part .ensures .1),
       λ n. absurd (n z),
     )
 
@@ -84,6 +86,6 @@ locate-cost-held-spec =
     judge-answer-held-requires
     enum-told
     returns-2
-    cast-locate-cost
-    locate-cost-requires
+    cast-cost-part
+    cost-part-requires
     returns-3)

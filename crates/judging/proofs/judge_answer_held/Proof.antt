@@ -4,7 +4,7 @@ use native.Mathlib.Omega.{arith}
 use mathlib.Core.Path.{refl, sym, _∙_}
 use mathlib.Core.Bool.{true, false}
 use borrow.Author.Tests.{not-true, not-false}
-use Rattle.leb128.specs.Number.{Bytes}
+use Rattle.number.specs.Number.{Bytes}
 use Rattle.frame.specs.Questions.{jobOf, refusal}
 use Rattle.frame.specs.Answers.{judgeAnswer}
 use Rattle.accept.specs.AskedLaws.{asked-number, some-node}
@@ -36,8 +36,8 @@ sub-count c =
     let (s, k) = e .before .before .pre (e .if1 .left) in
     omega (arith, some-node k (e .if1 .left))
 
-judge-answer-requires : tie.Need-judge-answer-requires
-judge-answer-requires c κs =
+certify-requires : tie.Need-certify-requires
+certify-requires c κs =
     let e = c .before .before in
     let (s, k) = e .before .before .pre (e .if1 .left) in
     answer-asked k (e .if1 .left)
@@ -46,7 +46,9 @@ returns-2 : tie.Need-returns-2
 returns-2 c =
     let e = c .before .before .before .before in
     let z = e .if1 .left in (
-      λ s k. answer-judged-of s (k .bytes) _ (bytes (e .before)) _ (verdict-word (refusal s) (judgeAnswer (jobOf s) _) false (asked-number k ∙ z) (sym (not-true _ (c .if2 .taken)) ∙ answer-word k z _ _ (c .before .judge-answer .ensures))),
+      λ s k. answer-judged-of s (k .bytes) _ (bytes (e .before)) _
+          (verdict-word (refusal s) (judgeAnswer (jobOf s) _) false (asked-number k ∙ z)
+          (sym (not-true _ (c .if2 .taken)) ∙ answer-word k z _ _ (c .before .certify .ensures))),
       λ n. absurd (n z),
     )
 
@@ -54,10 +56,12 @@ returns-3 : tie.Need-returns-3
 returns-3 c =
     let e = c .before .before .before .before in
     let z = e .if1 .left in (
-      λ s k. answer-judged-of s (k .bytes) _ (bytes (e .before)) _ (verdict-word (refusal s) (judgeAnswer (jobOf s) _) true (asked-number k ∙ z) (sym (not-false _ (c .if2 .left)) ∙ answer-word k z _ _ (c .before .judge-answer .ensures))),
+      λ s k. answer-judged-of s (k .bytes) _ (bytes (e .before)) _
+          (verdict-word (refusal s) (judgeAnswer (jobOf s) _) true (asked-number k ∙ z)
+          (sym (not-false _ (c .if2 .left)) ∙ answer-word k z _ _ (c .before .certify .ensures))),
       λ n. absurd (n z),
     )
 
 pub judge-answer-held-spec : {M : Type 1} → statement M
 judge-answer-held-spec =
-    tie.close (tie.spec returns cast-edges cast-count sub-count judge-answer-requires returns-2 returns-3)
+    tie.close (tie.spec returns cast-edges cast-count sub-count certify-requires returns-2 returns-3)

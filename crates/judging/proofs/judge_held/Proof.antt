@@ -6,7 +6,7 @@ use mathlib.Core.Bool.{true, false}
 use Rattle.frame.specs.Questions.{jobOf, refusal}
 use Rattle.frame.specs.Answers.{judgeTree}
 use Rattle.accept.specs.AskedLaws.{asked-number, some-node}
-use Rattle.judging.specs.JudgeLaws.{tree-asked, tree-word}
+use Rattle.judging.specs.JudgeLaws.{tree-asked, tree-falling, tree-word}
 use Rattle.judging.specs.VerdictLaws.{tree-judged-of, verdict-refused, verdict-word}
 use borrow.Author.Needs.{needs}
 use Rattle.judging.proofs.judge_held.Statement.{statement}
@@ -30,17 +30,18 @@ sub-count c =
     let (s, k) = e .before .pre (e .if1 .left) in
     omega (arith, some-node k (e .if1 .left))
 
-judge-requires : tie.Need-judge-requires
-judge-requires c κs =
+judge-ranked-requires : tie.Need-judge-ranked-requires
+judge-ranked-requires c κs =
     let e = c .before .before in
     let (s, k) = e .before .pre (e .if1 .left) in
-    tree-asked k (e .if1 .left)
+    (tree-asked k (e .if1 .left), tree-falling k (e .if1 .left) _)
 
 returns-2 : tie.Need-returns-2
 returns-2 c =
     let e = c .before .before .before .before in
     let z = e .if1 .left in (
-      λ s k. tree-judged-of s (k .bytes) _ (verdict-word (refusal s) (judgeTree (jobOf s)) true (asked-number k ∙ z) (sym (c .if2 .taken) ∙ tree-word k z _ (c .before .judge .ensures))),
+      λ s k. tree-judged-of s (k .bytes) _ (verdict-word (refusal s) (judgeTree (jobOf s)) true (asked-number k ∙ z)
+          (sym (c .if2 .taken) ∙ tree-word k z _ (c .before .judge-ranked .ensures))),
       λ n. absurd (n z),
     )
 
@@ -48,10 +49,11 @@ returns-3 : tie.Need-returns-3
 returns-3 c =
     let e = c .before .before .before .before in
     let z = e .if1 .left in (
-      λ s k. tree-judged-of s (k .bytes) _ (verdict-word (refusal s) (judgeTree (jobOf s)) false (asked-number k ∙ z) (sym (c .if2 .left) ∙ tree-word k z _ (c .before .judge .ensures))),
+      λ s k. tree-judged-of s (k .bytes) _ (verdict-word (refusal s) (judgeTree (jobOf s)) false (asked-number k ∙ z)
+          (sym (c .if2 .left) ∙ tree-word k z _ (c .before .judge-ranked .ensures))),
       λ n. absurd (n z),
     )
 
 pub judge-held-spec : {M : Type 1} → statement M
 judge-held-spec =
-    tie.close (tie.spec returns cast-edges cast-count sub-count judge-requires returns-2 returns-3)
+    tie.close (tie.spec returns cast-edges cast-count sub-count judge-ranked-requires returns-2 returns-3)

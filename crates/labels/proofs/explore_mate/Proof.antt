@@ -31,7 +31,8 @@ returns-2 : tie.Need-returns-2
 returns-2 c =
     let e = c .before .before .before .before .before .before in
     let a = e .args in
-    mate-seen (a .s .0) (a .rows .now) (a .mates .now) (a .tree-seen .now) (a .live .now) (c .before .before .before .if1 .left) (e .pre .1) (e .pre .2) (sym (c .before .has .ensures) ∙ c .if2 .taken)
+    mate-seen (a .s .0) (a .rows .now) (a .mates .now) (a .tree-seen .now) (a .live .now) (c .before .before .before .if1 .left) (e .pre .1) (e .pre .2)
+    (sym (c .before .has .ensures) ∙ c .if2 .taken)
 
 sub-t11 : tie.Need-sub-t11
 sub-t11 c = search needs
@@ -41,7 +42,12 @@ explore-requires c κs =
     let e = c .before .before .before .before .before .before .before .before .before in
     let a = e .args in (
       sym (c .before .before .before .before .has .ensures) ∙ c .before .before .before .if2 .left,
-      record { rank = omega (arith, e .pre .3 (a .s .0), c .before .before .before .before .before .before .if1 .left); mates-length = e .pre .1; live-length = e .pre .2; below = e .pre .3 },
+      record {
+        rank = omega (arith, e .pre .3 (a .s .0), c .before .before .before .before .before .before .if1 .left);
+        mates-length = e .pre .1;
+        live-length = e .pre .2;
+        below = e .pre .3;
+      },
     )
 
 returns-3 : tie.Need-returns-3
@@ -49,7 +55,10 @@ returns-3 c =
     let e = c .before .before .before .before .before .before .before .before .before .before in
     let a = e .args in
     let f = c .explore in
-    mate-explored (a .s .0) (a .rows .now) (a .mates .now) (a .tree-seen .now) (a .live .now) (c .before .before .before .before .before .before .before .if1 .left) (sym (c .before .before .before .before .before .has .ensures) ∙ c .before .before .before .before .if2 .left) (f .last .1 .1 .0) (f .last .1 .1 .1 .0) (f .last .1 .1 .1 .1 .0) (f .ensures)
+    mate-explored (a .s .0) (a .rows .now) (a .mates .now) (a .tree-seen .now) (a .live .now)
+    (c .before .before .before .before .before .before .before .if1 .left)
+    (sym (c .before .before .before .before .before .has .ensures) ∙ c .before .before .before .before .if2 .left) (f .last .1 .1 .0) (f .last .1 .1 .1 .0)
+    (f .last .1 .1 .1 .1 .0) (f .ensures)
 
 pub explore-mate-spec : {M : Type 1} → statement M
 explore-mate-spec =

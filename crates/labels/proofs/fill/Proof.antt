@@ -2,7 +2,7 @@
 use native.Mathlib.Omega.{arith}
 use Rattle.bits.specs.Bit.{bit}
 use Rattle.graph.specs.Graph.{count}
-use Rattle.labels.specs.FillSteps.{Filling, filling-start, lowest-below, filling-turn, filling-less, filling-end}
+use Rattle.labels.specs.FillSteps.{Filling, filling-start, filling-below, filling-turn, filling-less, filling-end}
 use Rattle.labels.proofs.fill.Statement.{statement}
 use Rattle.labels.proofs.fill.Tie as tie
 
@@ -23,25 +23,50 @@ cast-i : tie.Need-cast-i Inv-loop μ-loop
 cast-i c =
     let a = c .before .before .before .before .args in
     let l = c .before .before .loop in
-    omega (arith, lowest-below (a .word) (a .base) (a .x) (a .label .now) (l .left) (l .label) (l .inv) (c .before .loop-test .taken) (c .lowest .result) (c .lowest .ensures))
+    omega (
+      arith,
+      filling-below (a .word) (a .base) (a .x) (a .label .now) (l .left) (l .label) (l .inv) (c .before .loop-test .taken) (c .lowest .result)
+          (c .lowest .ensures),
+    )
 
 add-i : tie.Need-add-i Inv-loop μ-loop
 add-i c =
     let a = c .before .before .before .before .args in
     let l = c .before .before .loop in
-    omega (arith, lowest-below (a .word) (a .base) (a .x) (a .label .now) (l .left) (l .label) (l .inv) (c .before .loop-test .taken) (c .lowest .result) (c .lowest .ensures), c .before .before .before .before .pre, c .before .before .before .before .good, l .inv .size)
+    omega (
+      arith,
+      filling-below (a .word) (a .base) (a .x) (a .label .now) (l .left) (l .label) (l .inv) (c .before .loop-test .taken) (c .lowest .result)
+          (c .lowest .ensures),
+      c .before .before .before .before .pre,
+      c .before .before .before .before .good,
+      l .inv .size,
+    )
 
 mul-label : tie.Need-mul-label Inv-loop μ-loop
 mul-label c =
     let a = c .before .before .before .before .args in
     let l = c .before .before .loop in
-    omega (arith, lowest-below (a .word) (a .base) (a .x) (a .label .now) (l .left) (l .label) (l .inv) (c .before .loop-test .taken) (c .lowest .result) (c .lowest .ensures), c .before .before .before .before .pre, c .before .before .before .before .good, l .inv .size)
+    omega (
+      arith,
+      filling-below (a .word) (a .base) (a .x) (a .label .now) (l .left) (l .label) (l .inv) (c .before .loop-test .taken) (c .lowest .result)
+          (c .lowest .ensures),
+      c .before .before .before .before .pre,
+      c .before .before .before .before .good,
+      l .inv .size,
+    )
 
 slice-write-label : tie.Need-slice-write-label Inv-loop μ-loop
 slice-write-label c =
     let a = c .before .before .before .before .args in
     let l = c .before .before .loop in
-    omega (arith, lowest-below (a .word) (a .base) (a .x) (a .label .now) (l .left) (l .label) (l .inv) (c .before .loop-test .taken) (c .lowest .result) (c .lowest .ensures), c .before .before .before .before .pre, c .before .before .before .before .good, l .inv .size)
+    omega (
+      arith,
+      filling-below (a .word) (a .base) (a .x) (a .label .now) (l .left) (l .label) (l .inv) (c .before .loop-test .taken) (c .lowest .result)
+          (c .lowest .ensures),
+      c .before .before .before .before .pre,
+      c .before .before .before .before .good,
+      l .inv .size,
+    )
 
 without-lowest-requires : tie.Need-without-lowest-requires Inv-loop μ-loop
 without-lowest-requires c κs = omega arith
@@ -50,13 +75,16 @@ loop-less : tie.Need-loop-less Inv-loop μ-loop
 loop-less c =
     let a = c .before .before .before .before .before .args in
     let l = c .before .before .before .loop in
-    filling-less (a .word) (a .base) (a .x) (a .label .now) (l .left) (l .label) (l .inv) (c .before .before .loop-test .taken) (c .before .lowest .result) (c .before .lowest .ensures) (c .without-lowest .result) (c .without-lowest .ensures)
+    filling-less (a .word) (a .base) (a .x) (a .label .now) (l .left) (l .label) (l .inv) (c .before .before .loop-test .taken) (c .before .lowest .result)
+    (c .before .lowest .ensures) (c .without-lowest .result) (c .without-lowest .ensures)
 
 loop-again : tie.Need-loop-again Inv-loop μ-loop
 loop-again c =
     let a = c .before .before .before .before .before .args in
     let l = c .before .before .before .loop in
-    filling-turn (a .word) (a .base) (a .x) (a .label .now) (l .left) (l .label) (l .inv) (c .before .before .loop-test .taken) (c .before .lowest .result) (c .before .lowest .ensures) (c .without-lowest .result) (c .without-lowest .ensures) (c .before .before .before .before .before .pre) (omega (arith, c .without-lowest .ok))
+    filling-turn (a .word) (a .base) (a .x) (a .label .now) (l .left) (l .label) (l .inv) (c .before .before .loop-test .taken) (c .before .lowest .result)
+    (c .before .lowest .ensures) (c .without-lowest .result) (c .without-lowest .ensures) (c .before .before .before .before .before .pre)
+    (omega (arith, c .without-lowest .ok))
 
 same-length : tie.Need-same-length Inv-loop μ-loop
 same-length c = c .before .loop .inv .size

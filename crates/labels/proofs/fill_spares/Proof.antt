@@ -46,7 +46,9 @@ loop-again : tie.Need-loop-again Inv-loop μ-loop
 loop-again c =
     let a = c .before .before .before .before .before .before .before .args in
     let l = c .before .before .before .before .before .before .loop in
-    words-turn (a .x) (a .old .now) (a .new .now) (a .label .now) (l .k) (l .label) (l .inv) (c .before .before .less .result) (omega (arith, c .before .before .less .ok)) (c .before .before .less .ensures) (c .fill .last .1 .1 .1 .0) (c .fill .ensures) (c .before .before .before .before .before .loop-test .taken)
+    words-turn (a .x) (a .old .now) (a .new .now) (a .label .now) (l .k) (l .label) (l .inv) (c .before .before .less .result)
+    (omega (arith, c .before .before .less .ok)) (c .before .before .less .ensures) (c .fill .last .1 .1 .1 .0) (c .fill .ensures)
+    (c .before .before .before .before .before .loop-test .taken)
 
 returns : tie.Need-returns Inv-loop μ-loop
 returns c =

@@ -14,7 +14,8 @@ returns : tie.Need-returns
 returns c =
     let e = c .before .before .before in
     let a = e .args in
-    spare-done (a .s .0) (a .x) (a .rows .now) (store (a .mates .now) (a .tree-done .now) (a .live .now) (a .tree-label .now) (a .spare-label .now)) (e .pre .1) (sym (c .before .contains .ensures) ∙ not-true (c .before .contains .result) (c .if1 .taken))
+    spare-done (a .s .0) (a .x) (a .rows .now) (store (a .mates .now) (a .tree-done .now) (a .live .now) (a .tree-label .now) (a .spare-label .now))
+    (e .pre .1) (sym (c .before .contains .ensures) ∙ not-true (c .before .contains .result) (c .if1 .taken))
 
 remove-requires : tie.Need-remove-requires
 remove-requires c κs = search needs
@@ -30,8 +31,10 @@ returns-2 c =
     let e = c .before .before .before .before .before .before .before .before .before .before .before .before .before .before .before .before in
     let a = e .args in
     let f = c .before .before .before .before .before .explore-mate in
-    spare-labelled (a .s .0) (a .x) (a .rows .now) (store (a .mates .now) (a .tree-done .now) (a .live .now) (a .tree-label .now) (a .spare-label .now)) (e .pre .1) (sym (c .before .before .before .before .before .before .before .before .before .before .before .before .before .before .contains .ensures) ∙ not-false (c .before .before .before .before .before .before .before .before .before .before .before .before .before .before .contains .result) (c .before .before .before .before .before .before .before .before .before .before .before .before .before .if1 .left)) (c .before .before .before .before .before .before .before .before .before .remove .last .0) (c .before .before .before .before .before .before .before .before .before .remove .ensures .0)
-    (store (f .last .1 .1 .0) (f .last .1 .1 .1 .0) (f .last .1 .1 .1 .1 .0) (c .relabel .last .1 .1 .1 .1 .1 .0) (c .relabel .last .1 .1 .1 .1 .1 .1 .0)) (f .ensures) (c .relabel .ensures)
+    spare-labelled (a .s .0) (a .x) (a .rows .now) (store (a .mates .now) (a .tree-done .now) (a .live .now) (a .tree-label .now) (a .spare-label .now))
+    (e .pre .1) (sym (c .before .before .before .before .before .before .before .before .before .before .before .before .before .before .contains .ensures) ∙ not-false (c .before .before .before .before .before .before .before .before .before .before .before .before .before .before .contains .result) (c .before .before .before .before .before .before .before .before .before .before .before .before .before .if1 .left)) (c .before .before .before .before .before .before .before .before .before .remove .last .0) (c .before .before .before .before .before .before .before .before .before .remove .ensures .0)
+    (store (f .last .1 .1 .0) (f .last .1 .1 .1 .0) (f .last .1 .1 .1 .1 .0) (c .relabel .last .1 .1 .1 .1 .1 .0) (c .relabel .last .1 .1 .1 .1 .1 .1 .0))
+    (f .ensures) (c .relabel .ensures)
 
 pub label-spare-spec : {M : Type 1} → statement M
 label-spare-spec =

@@ -42,7 +42,8 @@ loop-again : tie.Need-loop-again Inv-loop μ-loop
 loop-again c =
     let a = c .before .before .before .args in
     let l = c .before .before .loop in
-    owned-turn (a .spares) (a .cost .now) (a .ss .now) (a .label .now) (l .s) (l .label) (l .inv) (c .before .loop-test .taken) (c .before .before .before .pre .0) (c .cost-at .result) (c .cost-at .ensures)
+    owned-turn (a .spares) (a .cost .now) (a .ss .now) (a .label .now) (l .s) (l .label) (l .inv) (c .before .loop-test .taken)
+    (c .before .before .before .pre .0) (c .cost-at .result) (c .cost-at .ensures)
 
 returns : tie.Need-returns Inv-loop μ-loop
 returns c =

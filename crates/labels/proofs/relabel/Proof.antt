@@ -18,7 +18,9 @@ returns c =
     let e = c .before .before .before .before .before in
     let a = e .args in
     let f = c .before .before .fill in
-    relabelled (a .x) (a .old-trees) (a .old-live .now) (a .trees) (a .live .now) (a .tree-label .now) (a .spare-label .now) (f .last .1 .1 .1 .0) (c .fill-spares .last .1 .1 .1 .0) (e .pre .1) (e .pre .2) (c .before .before .before .before .less .result) (c .before .before .before .before .less .ensures) (f .ensures) (c .fill-spares .ensures)
+    relabelled (a .x) (a .old-trees) (a .old-live .now) (a .trees) (a .live .now) (a .tree-label .now) (a .spare-label .now) (f .last .1 .1 .1 .0)
+    (c .fill-spares .last .1 .1 .1 .0) (e .pre .1) (e .pre .2) (c .before .before .before .before .less .result)
+    (c .before .before .before .before .less .ensures) (f .ensures) (c .fill-spares .ensures)
 
 pub relabel-spec : {M : Type 1} → statement M
 relabel-spec = tie.close (tie.spec less-requires fill-requires fill-spares-requires returns)

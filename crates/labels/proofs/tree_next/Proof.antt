@@ -34,7 +34,8 @@ cost-at-requires-2 c κs =
 returns-3 : tie.Need-returns-3
 returns-3 c =
     let a = c .before .before .before .before .before .args in
-    next-by-cost (a .trees) (a .cost .now) (a .ts .now) (a .ss .now) (a .t .0) (a .left) (c .before .before .before .before .if1 .left) (c .before .before .if2 .left) (c .before .cost-at .result) (c .cost-at2 .result) (c .before .cost-at .ensures) (c .cost-at2 .ensures)
+    next-by-cost (a .trees) (a .cost .now) (a .ts .now) (a .ss .now) (a .t .0) (a .left) (c .before .before .before .before .if1 .left)
+    (c .before .before .if2 .left) (c .before .cost-at .result) (c .cost-at2 .result) (c .before .cost-at .ensures) (c .cost-at2 .ensures)
 
 pub tree-next-spec : {M : Type 1} → statement M
 tree-next-spec =

@@ -3,7 +3,7 @@
 use Prim.Native.Nat.{ℕ, _+_, _-_, _^_, _<_}
 use native.Mathlib.Omega.{arith}
 use mathlib.Core.Path.{_≡_, sym, _∙_}
-use Rattle.leb128.specs.Number.{readAt}
+use Rattle.leb128.specs.Positions.{readAt}
 use Rattle.leb128.specs.declared.Number.the-variants.{Value}
 use Rattle.leb128.proofs.Steps.{read-none, read-end, read-last, read-refused, read-long, read-value, read-bound}
 use borrow.Fn.Kinds.{In}

@@ -1,7 +1,7 @@
 -- The proof of the cycle of calls {size}. The measure is `most`: each turn of the code is one step of `encode`. Assumes nothing.
 use Prim.Native.Nat.{ℕ, _-_, _/_, _<_}
 use native.Mathlib.Omega.{arith}
-use Rattle.leb128.specs.Laws.{encode-size-most}
+use Rattle.number.specs.Laws.{encode-size-most}
 use Rattle.leb128.proofs.Steps.{encode-none, encode-last, encode-more}
 use borrow.Fn.Kinds.{In}
 use borrow.Fn.PlainCycle.{Measures, is, falls, and}

@@ -6,7 +6,7 @@ use native.Mathlib.Omega.{arith}
 use mathlib.Core.Path.{_≡_, refl, ap, _∙_}
 use mathlib.Core.List.{[], _∷_}
 use lib.ListN.{length, length-set}
-use Rattle.leb128.specs.Number.{encode}
+use Rattle.number.specs.Number.{encode}
 use Rattle.leb128.proofs.Steps.{encode-none, encode-last, encode-more}
 use borrow.Fn.Kinds.{In}
 use borrow.Fn.PlainCycle.{Measures, is, falls, and}

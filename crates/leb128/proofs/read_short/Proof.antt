@@ -48,7 +48,8 @@ returns-4 c =
     let g = c .before .before in
     let f = g .before in
     let a = f .before .before .before .args in
-    sym (too-long (a .bytes .now) (a .at) (omega (arith, f .before .before .if1 .left)) (omega (arith, f .if2 .left)) (omega (arith, g .if3 .left)) (omega (arith, c .if4 .taken)))
+    sym (too-long (a .bytes .now) (a .at) (omega (arith, f .before .before .if1 .left)) (omega (arith, f .if2 .left)) (omega (arith, g .if3 .left))
+    (omega (arith, c .if4 .taken)))
 
 returns-5 : tie.Need-returns-5
 returns-5 c =
@@ -64,7 +65,13 @@ mul-t13 : tie.Need-mul-t13
 mul-t13 c = search needs
 
 add-t14 : tie.Need-add-t14
-add-t14 c = omega (arith, c .before .if4 .left, c .before .before .before .before .before .shared-slice-known .given (c .before .before .before .before .before .before .before .args .at))
+add-t14 c =
+    omega (
+      arith,
+      c .before .if4 .left,
+      c .before .before .before .before .before .shared-slice-known .given
+          (c .before .before .before .before .before .before .before .args .at),
+    )
 
 add-t6 : tie.Need-add-t6
 add-t6 c = search needs

@@ -2,7 +2,7 @@
 use Prim.Native.Nat.{_/_}
 use native.Mathlib.Omega.{arith}
 use mathlib.Core.Path.{sym}
-use Rattle.leb128.specs.Laws.{encode-size-last, encode-size-more, encode-size-pos, encode-size-most}
+use Rattle.number.specs.Laws.{encode-size-last, encode-size-more, encode-size-pos, encode-size-most}
 use Rattle.leb128.proofs.size_short.Statement.{statement}
 use Rattle.leb128.proofs.size_short.Tie as tie
 

@@ -5,7 +5,7 @@ use native.Mathlib.Omega.{arith}
 use mathlib.Core.Path.{_≡_, refl, ap, _∙_}
 use mathlib.Core.List.{[], _∷_}
 use lib.ListN.{length, length-set}
-use Rattle.leb128.specs.Number.{encode}
+use Rattle.number.specs.Number.{encode}
 use Rattle.leb128.proofs.Steps.{encode-last, encode-more}
 use borrow.Author.Needs.{needs}
 use Rattle.leb128.proofs.write_short.Statement.{statement}

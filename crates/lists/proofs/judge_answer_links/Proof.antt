@@ -15,7 +15,8 @@ judge-answer-held-requires c κs = some-asked (c .before .before .before .before
 returns : tie.Need-returns
 returns c =
     let t = c .before .before .before .before .before .before .before in
-    given-judged (t .accept-links .ensures .0) (λ s. AnswerJudged s _) (c .judge-answer-held .result) (c .judge-answer-held .ensures .0) (c .judge-answer-held .ensures .1)
+    given-judged (t .accept-links .ensures .0) (λ s. AnswerJudged s _) (c .judge-answer-held .result) (c .judge-answer-held .ensures .0)
+    (c .judge-answer-held .ensures .1)
 
 pub judge-answer-links-spec : {M : Type 1} → statement M
 judge-answer-links-spec =

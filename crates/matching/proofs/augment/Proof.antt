@@ -19,7 +19,8 @@ returns c =
     let e = f .before .before .before in
     let a = e .args in
     let o = f .before .lowest-free in
-    augmented-none (a .t .0) (a .spares) (a .cost .now) (a .ts .now) (a .ss .now) (a .rows .now) (a .mates .now) (a .taken .now) (a .tree-dead .now) (a .live .now) (e .pre) (o .result) (o .ensures) (sym (f .gains .ensures) ∙ not-true (f .gains .result) (c .if1 .taken))
+    augmented-none (a .t .0) (a .spares) (a .cost .now) (a .ts .now) (a .ss .now) (a .rows .now) (a .mates .now) (a .taken .now) (a .tree-dead .now)
+    (a .live .now) (e .pre) (o .result) (o .ensures) (sym (f .gains .ensures) ∙ not-true (f .gains .result) (c .if1 .taken))
 
 seek-requires : tie.Need-seek-requires
 seek-requires c κs =
@@ -27,15 +28,25 @@ seek-requires c κs =
     let e = f .before .before .before in
     let a = e .args in
     let o = f .before .lowest-free in
-    cheapest-seekable (a .t .0) (a .spares) (a .cost .now) (a .ts .now) (a .ss .now) (a .rows .now) (a .mates .now) (a .taken .now) (a .tree-dead .now) (a .live .now) (e .pre) (o .result) (o .ensures) (sym (f .gains .ensures) ∙ not-false (f .gains .result) (c .before .before .before .before .before .before .if1 .left))
+    cheapest-seekable (a .t .0) (a .spares) (a .cost .now) (a .ts .now) (a .ss .now) (a .rows .now) (a .mates .now) (a .taken .now) (a .tree-dead .now)
+    (a .live .now) (e .pre) (o .result) (o .ensures)
+    (sym (f .gains .ensures) ∙ not-false (f .gains .result) (c .before .before .before .before .before .before .if1 .left))
 
 insert-requires : tie.Need-insert-requires
 insert-requires c κs =
     let f = c .before .before .before .before .before .before .before .before .before .before in
     let e = f .before .before .before in
     let a = e .args in
-    let o = f .before .lowest-free in
-    (omega (arith, cheapest-seekable (a .t .0) (a .spares) (a .cost .now) (a .ts .now) (a .ss .now) (a .rows .now) (a .mates .now) (a .taken .now) (a .tree-dead .now) (a .live .now) (e .pre) (o .result) (o .ensures) (sym (f .gains .ensures) ∙ not-false (f .gains .result) (c .before .before .before .before .before .before .before .before .before .if1 .left)) .within), e .pre .live-length)
+    let o = f .before .lowest-free in (
+      omega (
+        arith,
+        cheapest-seekable (a .t .0) (a .spares) (a .cost .now) (a .ts .now) (a .ss .now) (a .rows .now) (a .mates .now) (a .taken .now)
+            (a .tree-dead .now) (a .live .now) (e .pre) (o .result) (o .ensures)
+            (sym (f .gains .ensures) ∙ not-false (f .gains .result)
+            (c .before .before .before .before .before .before .before .before .before .if1 .left)) .within,
+      ),
+      e .pre .live-length,
+    )
 
 returns-2 : tie.Need-returns-2
 returns-2 c =
@@ -44,8 +55,11 @@ returns-2 c =
     let a = e .args in
     let o = f .before .lowest-free in
     let d = c .before .before .before .seek in
-    augmented-met (a .t .0) (a .spares) (a .cost .now) (a .ts .now) (a .ss .now) (a .rows .now) (a .mates .now) (a .taken .now) (a .tree-dead .now) (a .live .now) (e .pre) (o .result) (o .ensures) (sym (f .gains .ensures) ∙ not-false (f .gains .result) (c .before .before .before .before .before .before .before .before .before .before .if1 .left))
-    (d .last .1 .1 .1 .0) (d .last .1 .1 .1 .1 .0) (d .last .1 .1 .1 .1 .1 .0) (d .last .1 .1 .1 .1 .1 .1 .0) (d .result) (d .ensures) (c .before .before .if2 .taken)
+    augmented-met (a .t .0) (a .spares) (a .cost .now) (a .ts .now) (a .ss .now) (a .rows .now) (a .mates .now) (a .taken .now) (a .tree-dead .now)
+    (a .live .now) (e .pre) (o .result) (o .ensures)
+    (sym (f .gains .ensures) ∙ not-false (f .gains .result) (c .before .before .before .before .before .before .before .before .before .before .if1 .left))
+    (d .last .1 .1 .1 .0) (d .last .1 .1 .1 .1 .0) (d .last .1 .1 .1 .1 .1 .0) (d .last .1 .1 .1 .1 .1 .1 .0) (d .result) (d .ensures)
+    (c .before .before .if2 .taken)
     (c .insert .last .0) (c .insert .ensures .0) (c .insert .ensures .1)
 
 less-requires : tie.Need-less-requires
@@ -67,8 +81,13 @@ returns-4 c =
     let d = c .before .before .before .before .before .before .seek in
     let w = c .before .before .before .before .less in
     let g = c .before .before .lowest-covering in
-    augmented-off (a .t .0) (a .spares) (a .cost .now) (a .ts .now) (a .ss .now) (a .rows .now) (a .mates .now) (a .taken .now) (a .tree-dead .now) (a .live .now) (e .pre) (o .result) (o .ensures) (sym (f .gains .ensures) ∙ not-false (f .gains .result) (c .before .before .before .before .before .before .before .before .before .before .before .before .before .if1 .left))
-    (d .last .1 .1 .1 .0) (d .last .1 .1 .1 .1 .0) (d .last .1 .1 .1 .1 .1 .0) (d .last .1 .1 .1 .1 .1 .1 .0) (d .result) (d .ensures) (c .before .before .before .before .before .if2 .left) (w .result) (omega arith) (w .ensures) (g .result) (g .ensures) (sym (c .before .gains2 .ensures) ∙ c .if3 .left)
+    augmented-off (a .t .0) (a .spares) (a .cost .now) (a .ts .now) (a .ss .now) (a .rows .now) (a .mates .now) (a .taken .now) (a .tree-dead .now)
+    (a .live .now) (e .pre) (o .result) (o .ensures)
+    (sym (f .gains .ensures) ∙ not-false (f .gains .result)
+    (c .before .before .before .before .before .before .before .before .before .before .before .before .before .if1 .left))
+    (d .last .1 .1 .1 .0) (d .last .1 .1 .1 .1 .0) (d .last .1 .1 .1 .1 .1 .0) (d .last .1 .1 .1 .1 .1 .1 .0) (d .result) (d .ensures)
+    (c .before .before .before .before .before .if2 .left) (w .result) (omega arith) (w .ensures) (g .result) (g .ensures)
+    (sym (c .before .gains2 .ensures) ∙ c .if3 .left)
 
 -- They lead to one.
 seek-requires-2 : tie.Need-seek-requires-2
@@ -79,8 +98,12 @@ seek-requires-2 c κs =
     let o = f .before .lowest-free in
     let d = c .before .before .before .before .before .before .before .before .before .before .before .seek in
     let g = c .before .before .before .before .before .before .before .lowest-covering in
-    goal-seekable (a .t .0) (a .spares) (a .cost .now) (a .ts .now) (a .ss .now) (a .rows .now) (a .mates .now) (a .taken .now) (a .tree-dead .now) (a .live .now) (e .pre) (o .result) (o .ensures) (sym (f .gains .ensures) ∙ not-false (f .gains .result) (c .before .before .before .before .before .before .before .before .before .before .before .before .before .before .before .before .before .before .if1 .left))
-    (d .last .1 .1 .1 .0) (d .last .1 .1 .1 .1 .0) (d .last .1 .1 .1 .1 .1 .0) (d .last .1 .1 .1 .1 .1 .1 .0) (d .result) (d .ensures) (g .result) (sym (c .before .before .before .before .before .before .gains2 .ensures) ∙ c .before .before .before .before .before .if3 .taken)
+    goal-seekable (a .t .0) (a .spares) (a .cost .now) (a .ts .now) (a .ss .now) (a .rows .now) (a .mates .now) (a .taken .now) (a .tree-dead .now)
+    (a .live .now) (e .pre) (o .result) (o .ensures)
+    (sym (f .gains .ensures) ∙ not-false (f .gains .result)
+    (c .before .before .before .before .before .before .before .before .before .before .before .before .before .before .before .before .before .before .if1 .left))
+    (d .last .1 .1 .1 .0) (d .last .1 .1 .1 .1 .0) (d .last .1 .1 .1 .1 .1 .0) (d .last .1 .1 .1 .1 .1 .1 .0) (d .result) (d .ensures) (g .result)
+    (sym (c .before .before .before .before .before .before .gains2 .ensures) ∙ c .before .before .before .before .before .if3 .taken)
 
 insert-requires-2 : tie.Need-insert-requires-2
 insert-requires-2 c κs =
@@ -90,8 +113,13 @@ insert-requires-2 c κs =
     let o = f .before .lowest-free in
     let d = c .before .before .before .before .before .before .before .before .before .before .before .before .before .seek in
     let g = c .before .before .before .before .before .before .before .before .before .lowest-covering in (
-      goal-seekable (a .t .0) (a .spares) (a .cost .now) (a .ts .now) (a .ss .now) (a .rows .now) (a .mates .now) (a .taken .now) (a .tree-dead .now) (a .live .now) (e .pre) (o .result) (o .ensures) (sym (f .gains .ensures) ∙ not-false (f .gains .result) (c .before .before .before .before .before .before .before .before .before .before .before .before .before .before .before .before .before .before .before .before .if1 .left))
-          (d .last .1 .1 .1 .0) (d .last .1 .1 .1 .1 .0) (d .last .1 .1 .1 .1 .1 .0) (d .last .1 .1 .1 .1 .1 .1 .0) (d .result) (d .ensures) (g .result) (sym (c .before .before .before .before .before .before .before .before .gains2 .ensures) ∙ c .before .before .before .before .before .before .before .if3 .taken) .within,
+      goal-seekable (a .t .0) (a .spares) (a .cost .now) (a .ts .now) (a .ss .now) (a .rows .now) (a .mates .now) (a .taken .now) (a .tree-dead .now)
+          (a .live .now) (e .pre) (o .result) (o .ensures)
+          (sym (f .gains .ensures) ∙ not-false (f .gains .result)
+          (c .before .before .before .before .before .before .before .before .before .before .before .before .before .before .before .before .before .before .before .before .if1 .left))
+          (d .last .1 .1 .1 .0) (d .last .1 .1 .1 .1 .0) (d .last .1 .1 .1 .1 .1 .0) (d .last .1 .1 .1 .1 .1 .1 .0) (d .result) (d .ensures) (g .result)
+          (sym (c .before .before .before .before .before .before .before .before .gains2 .ensures) ∙
+          c .before .before .before .before .before .before .before .if3 .taken) .within,
       e .pre .live-length,
     )
 
@@ -105,8 +133,14 @@ returns-3 c =
     let w = c .before .before .before .before .before .before .before .before .before .before .before .before .less in
     let g = c .before .before .before .before .before .before .before .before .before .before .lowest-covering in
     let h = c .before .before .seek2 in
-    augmented-on (a .t .0) (a .spares) (a .cost .now) (a .ts .now) (a .ss .now) (a .rows .now) (a .mates .now) (a .taken .now) (a .tree-dead .now) (a .live .now) (e .pre) (o .result) (o .ensures) (sym (f .gains .ensures) ∙ not-false (f .gains .result) (c .before .before .before .before .before .before .before .before .before .before .before .before .before .before .before .before .before .before .before .before .before .if1 .left))
-    (d .last .1 .1 .1 .0) (d .last .1 .1 .1 .1 .0) (d .last .1 .1 .1 .1 .1 .0) (d .last .1 .1 .1 .1 .1 .1 .0) (d .result) (d .ensures) (c .before .before .before .before .before .before .before .before .before .before .before .before .before .if2 .left) (w .result) (omega arith) (w .ensures) (g .result) (g .ensures) (sym (c .before .before .before .before .before .before .before .before .before .gains2 .ensures) ∙ c .before .before .before .before .before .before .before .before .if3 .taken)
+    augmented-on (a .t .0) (a .spares) (a .cost .now) (a .ts .now) (a .ss .now) (a .rows .now) (a .mates .now) (a .taken .now) (a .tree-dead .now)
+    (a .live .now) (e .pre) (o .result) (o .ensures)
+    (sym (f .gains .ensures) ∙ not-false (f .gains .result)
+    (c .before .before .before .before .before .before .before .before .before .before .before .before .before .before .before .before .before .before .before .before .before .if1 .left))
+    (d .last .1 .1 .1 .0) (d .last .1 .1 .1 .1 .0) (d .last .1 .1 .1 .1 .1 .0) (d .last .1 .1 .1 .1 .1 .1 .0) (d .result) (d .ensures)
+    (c .before .before .before .before .before .before .before .before .before .before .before .before .before .if2 .left) (w .result) (omega arith)
+    (w .ensures) (g .result) (g .ensures) (sym (c .before .before .before .before .before .before .before .before .before .gains2 .ensures) ∙
+    c .before .before .before .before .before .before .before .before .if3 .taken)
     (h .last .1 .1 .1 .0) (h .last .1 .1 .1 .1 .0) (h .last .1 .1 .1 .1 .1 .0) (h .last .1 .1 .1 .1 .1 .1 .0) (h .result) (h .ensures)
     (c .insert2 .last .0) (c .insert2 .ensures .0) (c .insert2 .ensures .1)
 

@@ -23,7 +23,8 @@ augment-requires c κs =
     let e = c .before .before .before .before .before .before in
     let a = e .args in
     let l = c .before .before .before .before .before .loop in
-    building-ready (a .trees) (a .spares) (a .cost .now) (a .ts .now) (a .ss .now) (a .rows .now) (l .mates) (l .taken) (l .tree-dead) (l .live) (l .t) (l .inv) (a .mates .now) (a .taken .now) (e .pre) (c .before .before .before .before .loop-test .taken)
+    building-ready (a .trees) (a .spares) (a .cost .now) (a .ts .now) (a .ss .now) (a .rows .now) (l .mates) (l .taken) (l .tree-dead) (l .live) (l .t)
+    (l .inv) (a .mates .now) (a .taken .now) (e .pre) (c .before .before .before .before .loop-test .taken)
 
 add-t : tie.Need-add-t Inv-loop μ-loop
 add-t c = omega (arith, c .before .before .before .before .before .before .before .pre .few-trees)
@@ -36,13 +37,15 @@ loop-again c =
     let a = c .before .before .before .before .before .before .before .args in
     let l = c .before .before .before .before .before .before .loop in
     let d = c .augment .last .1 .1 .1 .1 .1 .1 in
-    building-turn (a .trees) (a .spares) (a .cost .now) (a .ts .now) (a .ss .now) (a .rows .now) (l .mates) (l .taken) (l .tree-dead) (l .live) (l .t) (l .inv) (d .0) (d .1 .0) (d .1 .1 .0) (d .1 .1 .1 .0) (c .before .before .before .before .before .loop-test .taken) (c .augment .ensures)
+    building-turn (a .trees) (a .spares) (a .cost .now) (a .ts .now) (a .ss .now) (a .rows .now) (l .mates) (l .taken) (l .tree-dead) (l .live) (l .t) (l .inv)
+    (d .0) (d .1 .0) (d .1 .1 .0) (d .1 .1 .1 .0) (c .before .before .before .before .before .loop-test .taken) (c .augment .ensures)
 
 returns : tie.Need-returns Inv-loop μ-loop
 returns c =
     let a = c .before .before .args in
     let l = c .before .loop in
-    building-end (a .trees) (a .spares) (a .cost .now) (a .ts .now) (a .ss .now) (a .rows .now) (l .mates) (l .taken) (l .tree-dead) (l .live) (l .t) (l .inv) (c .loop-test .left)
+    building-end (a .trees) (a .spares) (a .cost .now) (a .ts .now) (a .ss .now) (a .rows .now) (l .mates) (l .taken) (l .tree-dead) (l .live) (l .t) (l .inv)
+    (c .loop-test .left)
 
 pub build-spec : {M : Type 1} → statement M
 build-spec =

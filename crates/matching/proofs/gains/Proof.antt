@@ -29,13 +29,25 @@ element-copy-out-tree : tie.Need-element-copy-out-tree
 element-copy-out-tree c = search needs
 
 cast-result : tie.Need-cast-result
-cast-result c = omega (arith, c .before .before .before .before .before .before .before .pre .3 (c .before .before .before .before .before .before .before .args .goal .0) (c .before .before .before .before .before .if1 .left))
+cast-result c =
+    omega (
+      arith,
+      c .before .before .before .before .before .before .before .pre .3 (c .before .before .before .before .before .before .before .args .goal .0)
+          (c .before .before .before .before .before .if1 .left),
+    )
 
 mul-result : tie.Need-mul-result
-mul-result c = omega (arith, c .before .before .before .before .before .before .before .pre .3 (c .before .before .before .before .before .before .before .args .goal .0) (c .before .before .before .before .before .if1 .left))
+mul-result c =
+    omega (
+      arith,
+      c .before .before .before .before .before .before .before .pre .3 (c .before .before .before .before .before .before .before .args .goal .0)
+          (c .before .before .before .before .before .if1 .left),
+    )
 
 element-copy-out-result : tie.Need-element-copy-out-result
-element-copy-out-result c = c .before .before .before .before .before .before .before .pre .3 (c .before .before .before .before .before .before .before .args .goal .0) (c .before .before .before .before .before .if1 .left)
+element-copy-out-result c =
+    c .before .before .before .before .before .before .before .pre .3 (c .before .before .before .before .before .before .before .args .goal .0)
+    (c .before .before .before .before .before .if1 .left)
 
 cast-result-2 : tie.Need-cast-result-2
 cast-result-2 c = search needs

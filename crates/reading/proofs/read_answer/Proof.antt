@@ -4,7 +4,7 @@ use mathlib.Core.Path.{_≡_, sym, ap, _∙_}
 use mathlib.Core.Logic.{⊎-elim}
 use lib.ListN.{length}
 use denote.Enum.Declared
-use Rattle.leb128.specs.Number.{Bytes}
+use Rattle.number.specs.Number.{Bytes}
 use Rattle.frame.specs.Questions.{jobOf}
 use Rattle.frame.specs.Answers.{readAnswer}
 use Rattle.frame.specs.AnswerLayout.{layout-read}
@@ -30,7 +30,8 @@ offered-bytes t i = t .before .before .before .before .before .before .before .s
 asked :
     (t : tie.After-accept) →
     let l = t .accept .last .1 in
-    Asked (t .before .before .before .before .before .before .before .before .before .args .frame .now) (t .accept .result) (l .0) (l .1 .0) (l .1 .1 .0) (l .1 .1 .1 .0) (l .1 .1 .1 .1 .0) (l .1 .1 .1 .1 .1 .0)
+    Asked (t .before .before .before .before .before .before .before .before .before .args .frame .now) (t .accept .result) (l .0) (l .1 .0) (l .1 .1 .0)
+    (l .1 .1 .1 .0) (l .1 .1 .1 .1 .0) (l .1 .1 .1 .1 .1 .0)
 asked t = record { bytes = bytes t; header-is = t .accept .ensures .0; held = t .accept .ensures .1 }
 
 -- the verdict on the offered frame

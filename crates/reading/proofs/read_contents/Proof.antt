@@ -4,13 +4,13 @@ use borrow.Author.Needs.{needs}
 use Rattle.reading.proofs.read_contents.Statement.{statement}
 use Rattle.reading.proofs.read_contents.Tie as tie
 
-read-answer-requires : tie.Need-read-answer-requires
-read-answer-requires c κs = search needs
+load-answer-requires : tie.Need-load-answer-requires
+load-answer-requires c κs = search needs
 
 returns : tie.Need-returns
 returns c = λ a is most.
-    let e = c .read-answer .ensures in
-    contents-read _ (c .read-answer .result) _ _ _ _ (e .0) a is most (e .1 .1)
+    let e = c .load-answer .ensures in
+    contents-read _ (c .load-answer .result) _ _ _ (e .0) a is most (e .1 .1)
 
 pub read-contents-spec : {M : Type 1} → statement M
-read-contents-spec = tie.close (tie.spec read-answer-requires returns)
+read-contents-spec = tie.close (tie.spec load-answer-requires returns)

@@ -1,7 +1,7 @@
 -- `reading::read_job` meets its contract: an accepted job's arrays are gathered; of a refused frame nothing is read.
 -- Assumes nothing.
 use mathlib.Core.Path.{_∙_}
-use Rattle.leb128.specs.Number.{Bytes}
+use Rattle.number.specs.Number.{Bytes}
 use Rattle.frame.specs.Questions.{jobOf, refusal}
 use Rattle.accept.specs.AcceptLaws.{accepted-number, accepted-nodes, accepted-edges}
 use Rattle.reading.specs.JobReadLaws.{gathered-held, given-refused, given-job, job-given}
@@ -24,22 +24,26 @@ returns c =
     let t = c .before .before in
     let s = t .before .before .before .before .before .before .before .before .args .frame .now in
     let h = t .accept .result in
-    job-given s (bytes t) _ (c .refused .ensures ∙ given-refused (refusal s) (h .refusal) (jobOf s) (accepted-number s h (t .accept .ensures .0)) (c .before .if1 .taken))
+    job-given s (bytes t) _ (c .refused .ensures ∙
+    given-refused (refusal s) (h .refusal) (jobOf s) (accepted-number s h (t .accept .ensures .0)) (c .before .if1 .taken))
+
+cast-t17 : tie.Need-cast-t17
+cast-t17 c = search needs
 
 gather-requires : tie.Need-gather-requires
 gather-requires c κs = search needs
 
 returns-2 : tie.Need-returns-2
 returns-2 c =
-    let t = c .before .before .before .before .before .before in
+    let t = c .before .before .before .before .before .before .before in
     let s = t .before .before .before .before .before .before .before .before .args .frame .now in
     let h = t .accept .result in
     let is = t .accept .ensures .0 in
-    let z = c .before .before .before .before .before .if1 .left in
+    let z = c .before .before .before .before .before .before .if1 .left in
     job-given s (bytes t) _
     (given-job (refusal s) (h .nodes) (h .edges) (c .gather .result) (jobOf s) (accepted-number s h is ∙ z) (accepted-nodes s h is z) (accepted-edges s h is z)
     (c .gather .ensures ∙ gathered-held 256 (jobOf s) _ _ _ _ _ _ (t .accept .ensures .1 z)))
 
 pub read-job-spec : {M : Type 1} → statement M
 read-job-spec =
-    tie.close (tie.spec accept-requires refused-requires returns gather-requires returns-2)
+    tie.close (tie.spec accept-requires refused-requires returns cast-t17 gather-requires returns-2)

@@ -77,7 +77,8 @@ module _ {M : Type 1} (𝓤 : URA M) (H : Heap 𝓤) (A : Atoms 𝓤) (mem : Mem
   abbrev Still : Contract 𝓤
   Still = tripleOf 𝓤 H A still.signature (still.spec 𝓤 H A mem run)
 
-module _ {M : Type 1} (𝓤 : URA M) (H : Heap 𝓤) (A : Atoms 𝓤) (W : Given 𝓤 H A) (mem : Memory → SProp 𝓤) (run : Routine → Fun 𝓤) (κ : Lft) (q : Share) (b o : ℕ) (γ : GName) (ys : List Link) where
+module _ {M : Type 1} (𝓤 : URA M) (H : Heap 𝓤) (A : Atoms 𝓤) (W : Given 𝓤 H A) (mem : Memory → SProp 𝓤) (run : Routine → Fun 𝓤) (κ : Lft) (q : Share) (b o : ℕ)
+    (γ : GName) (ys : List Link) where
   abbrev s : RefT (List Link)
   s = record { ptr = (b, o); name = γ; now = ys }
 
@@ -94,8 +95,10 @@ module _ {M : Type 1} (𝓤 : URA M) (H : Heap 𝓤) (A : Atoms 𝓤) (W : Given
   exits : (t : Bool) → t ≡ allSmall ys → ent 𝓤 (⋆ 𝓤 H A (‵ (flft κ q) ∷ ‵ Own ∷ [])) (Post (vbool t))
   exits t e =
       qed W (‵ (flft κ q) ∷ ‵ Own ∷ []) ∵
-      suffices ! _ (ends-at 𝓤 H A f.ended stayed (f.clauses 𝓤 H A mem run) W (((κ, tt), (q, tt), tt, (s, tt), (v ∷ [], tt)), tt) (vbool t) t (tt, tt) (tt, tt)) $ says ! e $
-      nothing ! $ move ! (1 ∷ 0 ∷ []) $ join ! $ frame ! $ nothing ! $ move ! (1 ∷ 0 ∷ []) $ fjoin ! $ frame ! $ owned ! bool (Is bool) (bool-makes 𝓤 H A W) t _ refl $ done !
+      suffices ! _ (ends-at 𝓤 H A f.ended stayed (f.clauses 𝓤 H A mem run) W (((κ, tt), (q, tt), tt, (s, tt), (v ∷ [], tt)), tt) (vbool t) t (tt, tt) (tt, tt))
+      $ says ! e $
+      nothing ! $ move ! (1 ∷ 0 ∷ []) $ join ! $ frame ! $ nothing ! $ move ! (1 ∷ 0 ∷ []) $ fjoin ! $ frame ! $ owned ! bool (Is bool)
+      (bool-makes 𝓤 H A W) t _ refl $ done !
 
   -- the call of `still_small` at the link y: what it is passed, what it asks, and what is known of its result
   module _ (t : Bool) (y : Link) where
@@ -124,7 +127,8 @@ module _ {M : Type 1} (𝓤 : URA M) (H : Heap 𝓤) (A : Atoms 𝓤) (W : Given
     Nearer-wf : WellFounded Nearer
     Nearer-wf = InvImage·wf (λ (i : Upto). n - i .0) (Nat·lt-wfRel .wf)
 
-    module _ (𝓣 : Tables 𝓤 H) (known : Triple 𝓤 (𝓣 .C #records·still-small) (Still 𝓤 H A mem run)) (room : Room R (length ys)) (q′ : Share) (l₀ l₁ l₂ l₃ l₄ l₅ l₆ l₇ l₈ l₉ : ℕ) where
+    module _ (𝓣 : Tables 𝓤 H) (known : Triple 𝓤 (𝓣 .C #records·still-small) (Still 𝓤 H A mem run)) (room : Room R (length ys)) (q′ : Share)
+        (l₀ l₁ l₂ l₃ l₄ l₅ l₆ l₇ l₈ l₉ : ℕ) where
       abbrev C : Calls 𝓤 H
       C = 𝓣 .C
 
@@ -137,33 +141,43 @@ module _ {M : Type 1} (𝓤 : URA M) (H : Heap 𝓤) (A : Atoms 𝓤) (W : Given
       -- the links; what shuts the list; what the list owns; room for _9 to _5; i; the test of the links before i; n; the list; room for the result
       abbrev At : Upto → List (Item 𝓤)
       At i = ‵ (row R q′ ys b o) ∷ ‵ (fobor κ q (arr-parts (shares R) (length ys) .part q′ ys b o)) ∷ ‵ Own
-          ∷ ‵ (froom T′.mir l₉ 0) ∷ ‵ (fdies T′.mir l₉) ∷ ‵ (froom tyPtr l₈ 0) ∷ ‵ (fdies tyPtr l₈) ∷ ‵ (froom word l₇ 0) ∷ ‵ (fdies word l₇) ∷ ‵ (froom tyBool l₆ 0) ∷ ‵ (fdies tyBool l₆) ∷ ‵ (froom word l₅ 0) ∷ ‵ (fdies word l₅)
+          ∷ ‵ (froom T′.mir l₉ 0) ∷ ‵ (fdies T′.mir l₉) ∷ ‵ (froom tyPtr l₈ 0) ∷ ‵ (fdies tyPtr l₈) ∷ ‵ (froom word l₇ 0) ∷ ‵ (fdies word l₇) ∷ ‵
+          (froom tyBool l₆ 0) ∷ ‵ (fdies tyBool l₆) ∷ ‵ (froom word l₅ 0) ∷ ‵ (fdies word l₅)
           ∷ ‵ (fat fullShare word l₄ 0 (vint w64 (i .0))) ∷ ‵ (fdies word l₄) ∷ ‵ (fat fullShare tyBool l₃ 0 (vbool (smallTo (i .0) ys))) ∷ ‵ (fdies tyBool l₃)
-          ∷ ‵ (fat fullShare word l₂ 0 (vint w64 n)) ∷ ‵ (fdies word l₂) ∷ ‵ (fat fullShare slice l₁ 0 v) ∷ ‵ (fdies slice l₁) ∷ ‵ (froom tyBool l₀ 0) ∷ ‵ (fdies tyBool l₀) ∷ []
+          ∷ ‵ (fat fullShare word l₂ 0 (vint w64 n)) ∷ ‵ (fdies word l₂) ∷ ‵ (fat fullShare slice l₁ 0 v) ∷ ‵ (fdies slice l₁) ∷ ‵ (froom tyBool l₀ 0) ∷ ‵
+          (fdies tyBool l₀) ∷ []
 
       abbrev Turned : Upto → Out → SProp 𝓤
-      Turned i = afterTurn 𝓤 H (Below 𝓤 H A Nearer At i) (afterBlock 𝓤 H (afterSeq 𝓤 H (Wp 𝓤 H C Λ En code-of.t-6 (atReturn 𝓤 H En Post)) (atReturn 𝓤 H En Post)))
+      Turned i =
+          afterTurn 𝓤 H (Below 𝓤 H A Nearer At i) (afterBlock 𝓤 H (afterSeq 𝓤 H (Wp 𝓤 H C Λ En code-of.t-6 (atReturn 𝓤 H En Post)) (atReturn 𝓤 H En Post)))
 
       -- a turn that tests one more link
       more : (i : Upto) → i .0 < n → Sq W (At i) (runs C Λ En code-of.turn-1 (anyQ (Turned i)))
       unfolding afterTurn
       more i l =
-          assigns ! (bin ! (load ! (from ! (stop !)) (look ! 13 refl)) (load ! (from ! (stop !)) (look ! 17 refl)) tt) (from ! (stop !)) (init ! 9 refl (tt, tt)) $
+          assigns ! (bin ! (load ! (from ! (stop !)) (look ! 13 refl)) (load ! (from ! (stop !)) (look ! 17 refl)) tt) (from ! (stop !))
+          (init ! 9 refl (tt, tt)) $
           rewrite ! 9 (λ (t : Bool). ‵ (fat fullShare tyBool l₆ 0 (vbool t))) (lt-ltb (i .0) n l) refl $ stays ! (load ! (from ! (stop !)) (look ! 9 refl)) $
-          assigns ! (bin ! (load ! (from ! (stop !)) (look ! 13 refl)) (lit ! tt) (record { fits = place-fits })) (from ! (stop !)) (init ! 7 refl (tt, record { fits = place-fits })) $
-          assigns ! (bin ! (load ! (from ! (fld ! refl (stop !))) (look-in ! 19 (sub ! 0 refl (whole !)))) (load ! (from ! (stop !)) (look ! 7 refl)) tt) (from ! (stop !)) (init ! 5 refl (tt, tt)) $
+          assigns ! (bin ! (load ! (from ! (stop !)) (look ! 13 refl)) (lit ! tt) (record { fits = place-fits })) (from ! (stop !))
+          (init ! 7 refl (tt, record { fits = place-fits })) $
+          assigns ! (bin ! (load ! (from ! (fld ! refl (stop !))) (look-in ! 19 (sub ! 0 refl (whole !)))) (load ! (from ! (stop !)) (look ! 7 refl)) tt)
+          (from ! (stop !)) (init ! 5 refl (tt, tt)) $
           rewrite ! 5 (λ (p : ℕ). ‵ (fat fullShare tyPtr l₈ 0 (vptr b p))) (sym (place-is 16 o (i .0))) refl $
           elem-out ! R (Is R) (shows 𝓤 H A R) (LL.vals T.the-type T′.the-laws) (LL.tells T.the-type T′.the-laws) q′ ys (i .0) zeroLink b o in-ys (λ p.
-          assigns ! (of-opd ! (load ! (from ! (hop ! (look ! 7 refl) (stop !))) (look-raw ! 0 refl))) (from ! (stop !)) (init ! 5 refl (LL.lawful T.the-type T′.the-laws 𝓤 H A W .typed y _ p .0)) $
+          assigns ! (of-opd ! (load ! (from ! (hop ! (look ! 7 refl) (stop !))) (look-raw ! 0 refl))) (from ! (stop !))
+          (init ! 5 refl (LL.lawful T.the-type T′.the-laws 𝓤 H A W .typed y _ p .0)) $
           elem-back ! R q′ ys (i .0) zeroLink (T′.lowered y ∷ []) b o in-ys $
           use0 W (raw (Still 𝓤 H A mem run .pre (to t y))) (asks t y p) $
-          calls-at ! (fmOf 𝓤 H (W .laws) 𝓣) (Still 𝓤 H A mem run) known (to t y) (and-then ! (load ! (from ! (stop !)) (look ! 16 refl)) (and-then ! (load ! (from ! (stop !)) (look ! 4 refl)) (no-more !))) (λ u.
-          use1 W (later (some (λ (r : Bool). (‵ ftrue ⊛ ‵ (bool .own r (u ∷ []))) ⊛ raw (ensured 𝓤 H A still.ended (still.clauses 𝓤 H A mem run) tt (t, (y, tt)) tt r)))) (id⊢ 𝓤 _) $ await ! tt $ pick ! (λ r.
+          calls-at ! (fmOf 𝓤 H (W .laws) 𝓣) (Still 𝓤 H A mem run) known (to t y)
+          (and-then ! (load ! (from ! (stop !)) (look ! 16 refl)) (and-then ! (load ! (from ! (stop !)) (look ! 4 refl)) (no-more !))) (λ u.
+          use1 W (later (some (λ (r : Bool). (‵ ftrue ⊛ ‵ (bool .own r (u ∷ []))) ⊛ raw
+          (ensured 𝓤 H A still.ended (still.clauses 𝓤 H A mem run) tt (t, (y, tt)) tt r)))) (id⊢ 𝓤 _) $ await ! tt $ pick ! (λ r.
           split ! $ move ! (1 ∷ []) $ use1 W (raw (fact 𝓤 (r ≡ (t && smallLink y)))) (said t y r) $ heard ! (r ≡ (t && smallLink y)) (λ e. split ! $ drop ! $
           peeks ! bool (Is bool) (shows 𝓤 H A bool) r (u ∷ []) (λ told. drop ! $
           land ! (from ! (stop !)) (store ! 15 refl (bool-lawful 𝓤 H A W .typed r _ told .0)) $
           rewrite ! 15 (λ (w : Val). ‵ (fat fullShare tyBool l₃ 0 w)) (ap only (bool-tells r _ told) ∙ ap vbool (e ∙ sym (small-more (i .0) ys))) refl $
-          assigns-last ! (bin ! (load ! (from ! (stop !)) (look ! 13 refl)) (lit ! tt) (record { fits = next-fits })) (from ! (stop !)) (store ! 13 refl (tt, record { fits = next-fits })) $
+          assigns-last ! (bin ! (load ! (from ! (stop !)) (look ! 13 refl)) (lit ! tt) (record { fits = next-fits })) (from ! (stop !))
+          (store ! 13 refl (tt, record { fits = next-fits })) $
           forget ! 3 refl $ forget ! 5 refl $ forget ! 7 refl $ forget ! 9 refl $ again ! Nearer At i next (less (i .0) n l))))))
         where
           t : Bool
@@ -188,45 +202,65 @@ module _ {M : Type 1} (𝓤 : URA M) (H : Heap 𝓤) (A : Atoms 𝓤) (W : Given
       ends : (i : Upto) → i .0 ≡ n → Sq W (At i) (runs C Λ En code-of.turn-1 (anyQ (Turned i)))
       unfolding afterTurn
       ends i e =
-          assigns ! (bin ! (load ! (from ! (stop !)) (look ! 13 refl)) (load ! (from ! (stop !)) (look ! 17 refl)) tt) (from ! (stop !)) (init ! 9 refl (tt, tt)) $
-          rewrite ! 9 (λ (t : Bool). ‵ (fat fullShare tyBool l₆ 0 (vbool t))) (le-ltb (i .0) n (omega arith)) refl $ leaves-loop ! (load ! (from ! (stop !)) (look ! 9 refl)) $
+          assigns ! (bin ! (load ! (from ! (stop !)) (look ! 13 refl)) (load ! (from ! (stop !)) (look ! 17 refl)) tt) (from ! (stop !))
+          (init ! 9 refl (tt, tt)) $
+          rewrite ! 9 (λ (t : Bool). ‵ (fat fullShare tyBool l₆ 0 (vbool t))) (le-ltb (i .0) n (omega arith)) refl $ leaves-loop !
+          (load ! (from ! (stop !)) (look ! 9 refl)) $
           exec ! C Λ En code-of.t-6 (atRet En Post) $
           assigns ! (of-opd ! (load ! (from ! (stop !)) (look ! 15 refl))) (from ! (stop !)) (init ! 21 refl (tt, tt)) $
           shuts-slice ! tt R q′ ys b o $
           -- [the token; what the list owns; _9; …]
-          returns ! (look ! 20 refl) $ gone ! 20 refl refl $ gone ! 18 refl refl $ gone ! 16 refl refl $ gone ! 14 refl refl $ gone ! 12 refl refl $ gone-room ! 10 refl refl $
-          gone ! 8 refl refl $ gone-room ! 6 refl refl $ gone-room ! 4 refl refl $ gone-room ! 2 refl refl $ free0 ! $ by ! (exits (smallTo (i .0) ys) (ap (λ (j : ℕ). smallTo j ys) (e ∙ which)))
+          returns ! (look ! 20 refl) $ gone ! 20 refl refl $ gone ! 18 refl refl $ gone ! 16 refl refl $ gone ! 14 refl refl $ gone ! 12 refl refl $ gone-room
+          ! 10 refl refl $
+          gone ! 8 refl refl $ gone-room ! 6 refl refl $ gone-room ! 4 refl refl $ gone-room ! 2 refl refl $ free0 ! $ by !
+          (exits (smallTo (i .0) ys) (ap (λ (j : ℕ). smallTo j ys) (e ∙ which)))
 
       turns : (i : Upto) → Sq W (At i) (runs C Λ En code-of.turn-1 (anyQ (Turned i)))
       turns i = elim (decLt (i .0) n) [ yes l ↦ more i l | no g ↦ ends i (omega (arith, i .1, g)) ]
 
   -- the MIR up to the loop
-  walk : (𝓣 : Tables 𝓤 H) → Triple 𝓤 (𝓣 .C #records·at-most) (AtMost 𝓤 H A mem run) → Triple 𝓤 (𝓣 .C #records·still-small) (Still 𝓤 H A mem run) → Is (ShrSlice (named 0) κ R) s (v ∷ [])
+  walk :
+      (𝓣 : Tables 𝓤 H) →
+      Triple 𝓤 (𝓣 .C #records·at-most) (AtMost 𝓤 H A mem run) →
+      Triple 𝓤 (𝓣 .C #records·still-small) (Still 𝓤 H A mem run) →
+      Is (ShrSlice (named 0) κ R) s (v ∷ [])
       → ent 𝓤 (onEntry 𝓤 H A f.signature (κ, tt) (q, tt) (s, tt) (v ∷ [], tt)) (WpFn 𝓤 H (𝓣 .C) (𝓣 .Λ) code.function (v ∷ []) Post)
   walk 𝓣 bound known p =
       qed W ((‵ (flft κ q) ⊛ ‵ ftrue) ∷ ‵ (owns (ShrSlice (named 0) κ R ∷ []) (s, tt) (v ∷ [], tt)) ∷ []) ∵ enter ! (𝓣 .C) (𝓣 .Λ) code.function (v ∷ []) _ $
-      alloc1 ! (λ l₀. alloc1 ! (λ l₁. alloc1 ! (λ l₂. alloc1 ! (λ l₃. alloc1 ! (λ l₄. alloc1 ! (λ l₅. alloc1 ! (λ l₆. alloc1 ! (λ l₇. alloc1 ! (λ l₈. alloc1 ! (λ l₉. alloc0 ! $ params1 ! $
+      alloc1 ! (λ l₀. alloc1 ! (λ l₁. alloc1 !
+      (λ l₂. alloc1 ! (λ l₃. alloc1 ! (λ l₄. alloc1 ! (λ l₅. alloc1 ! (λ l₆. alloc1 ! (λ l₇. alloc1 ! (λ l₈. alloc1 ! (λ l₉. alloc0 ! $ params1 ! $
       pass1 ! (init ! 16 refl (shr-slice-lawful 𝓤 H A W (named 0) κ R .typed s (v ∷ []) p .0)) $ pass0 ! $
-      assigns ! (of-opd ! (load ! (from ! (fld ! refl (stop !))) (look-in ! 16 (sub ! 1 refl (whole !))))) (from ! (stop !)) (init ! 8 refl (tt, record { fits = p .0 .1 .0 })) $
-      counts W mem run (length ys) 16384 𝓣 bound (p .0 .1 .0) (lit< tt) (and-then ! (load ! (from ! (stop !)) (look ! 9 refl)) (and-then ! (big-lit ! (lit< tt)) (no-more !))) (λ n which small.
+      assigns ! (of-opd ! (load ! (from ! (fld ! refl (stop !))) (look-in ! 16 (sub ! 1 refl (whole !))))) (from ! (stop !))
+      (init ! 8 refl (tt, record { fits = p .0 .1 .0 })) $
+      counts W mem run (length ys) 16384 𝓣 bound (p .0 .1 .0) (lit< tt)
+      (and-then ! (load ! (from ! (stop !)) (look ! 9 refl)) (and-then ! (big-lit ! (lit< tt)) (no-more !))) (λ n which small.
       land ! (from ! (stop !)) (init ! 14 refl (tt, record { fits = small })) $
       assigns ! (of-opd ! (true-lit !)) (from ! (stop !)) (init ! 12 refl (tt, tt)) $
       assigns ! (of-opd ! (lit ! tt)) (from ! (stop !)) (init ! 10 refl (tt, record { fits = lit< tt })) $ forget ! 8 refl $
       -- the list is Copy: one copy of what it owns is kept for the exit, and the other is looked into
-      move ! (21 ∷ []) $ fsplit ! $ use1 W (‵ Own ⊛ ‵ Own) (shr-slice-copy 𝓤 H A W (named 0) κ R .twice s (v ∷ [])) $ split ! $ fsplit ! $ drop ! $ fsplit ! $ drop ! $
+      move ! (21 ∷ []) $ fsplit ! $ use1 W (‵ Own ⊛ ‵ Own)
+      (shr-slice-copy 𝓤 H A W (named 0) κ R .twice s (v ∷ [])) $ split ! $ fsplit ! $ drop ! $ fsplit ! $ drop ! $
       move ! (23 ∷ []) $ split ! $ move ! (2 ∷ 0 ∷ []) $
-      looks-slice ! tt R (Is R) (shows 𝓤 H A R) (LL.vals T.the-type T′.the-laws) (LL.tells T.the-type T′.the-laws) (LL.copy T.the-type T′.the-copy 𝓤 H A W) ys b o (λ q′.
+      looks-slice ! tt R (Is R) (shows 𝓤 H A R) (LL.vals T.the-type T′.the-laws) (LL.tells T.the-type T′.the-laws)
+      (LL.copy T.the-type T′.the-copy 𝓤 H A W) ys b o (λ q′.
       rewrite ! 18 (λ (t : Bool). ‵ (fat fullShare tyBool l₃ 0 (vbool t))) (small-none ys) refl $
       keep ! (0 ∷ 1 ∷ 4 ∷ 6 ∷ 7 ∷ 8 ∷ 9 ∷ 10 ∷ 11 ∷ 12 ∷ 13 ∷ 14 ∷ 15 ∷ 16 ∷ 17 ∷ 18 ∷ 19 ∷ 20 ∷ 21 ∷ 22 ∷ 23 ∷ 24 ∷ 25 ∷ []) $ first-part ! $ blocks ! $
-      loops ! 𝓣 (Nearer n which) (Nearer-wf n which) (At n which 𝓣 known (p .0 .1) q′ l₀ l₁ l₂ l₃ l₄ l₅ l₆ l₇ l₈ l₉) (turns n which 𝓣 known (p .0 .1) q′ l₀ l₁ l₂ l₃ l₄ l₅ l₆ l₇ l₈ l₉) (0, zero-le)))))))))))))
+      loops ! 𝓣 (Nearer n which) (Nearer-wf n which) (At n which 𝓣 known (p .0 .1) q′ l₀ l₁ l₂ l₃ l₄ l₅ l₆ l₇ l₈ l₉)
+      (turns n which 𝓣 known (p .0 .1) q′ l₀ l₁ l₂ l₃ l₄ l₅ l₆ l₇ l₈ l₉) (0, zero-le)))))))))))))
 
-module _ {M : Type 1} (𝓤 : URA M) (H : Heap 𝓤) (A : Atoms 𝓤) (W : Given 𝓤 H A) (mem : Memory → SProp 𝓤) (run : Routine → Fun 𝓤) (𝓣 : Tables 𝓤 H) (bound : Triple 𝓤 (𝓣 .C #records·at-most) (AtMost 𝓤 H A mem run)) (known : Triple 𝓤 (𝓣 .C #records·still-small) (Still 𝓤 H A mem run)) where
+module _ {M : Type 1} (𝓤 : URA M) (H : Heap 𝓤) (A : Atoms 𝓤) (W : Given 𝓤 H A) (mem : Memory → SProp 𝓤) (run : Routine → Fun 𝓤) (𝓣 : Tables 𝓤 H)
+    (bound : Triple 𝓤 (𝓣 .C #records·at-most) (AtMost 𝓤 H A mem run)) (known : Triple 𝓤 (𝓣 .C #records·still-small) (Still 𝓤 H A mem run)) where
   walks : Walks 𝓤 H A f.ended stayed (WpFn 𝓤 H (𝓣 .C) (𝓣 .Λ) code.function) (f.clauses 𝓤 H A mem run)
-  walks = walked 𝓤 H A f.ended stayed (f.clauses 𝓤 H A mem run) (WpFn 𝓤 H (𝓣 .C) (𝓣 .Λ) code.function) (λ κs. (slice-vals, tt)) (λ κs. (shr-slice-tells (named 0) (κs .0) R, tt))
-      (λ κs qs bounds a g are. via 𝓤 _ (fst∗ 𝓤 _ (emp 𝓤)) (walk 𝓤 H A W mem run (κs .0) (qs .0) (a .0 .ptr .0) (a .0 .ptr .1) (a .0 .name) (a .0 .now) 𝓣 bound known (are .0)))
+  walks =
+      walked 𝓤 H A f.ended stayed (f.clauses 𝓤 H A mem run) (WpFn 𝓤 H (𝓣 .C) (𝓣 .Λ) code.function) (λ κs. (slice-vals, tt))
+      (λ κs. (shr-slice-tells (named 0) (κs .0) R, tt))
+      (λ κs qs bounds a g are. via 𝓤 _ (fst∗ 𝓤 _ (emp 𝓤))
+      (walk 𝓤 H A W mem run (κs .0) (qs .0) (a .0 .ptr .0) (a .0 .ptr .1) (a .0 .name) (a .0 .now) 𝓣 bound known (are .0)))
 
   meets : Meets 𝓤 H A f.signature (WpFn 𝓤 H (𝓣 .C) (𝓣 .Λ) code.function) (f.spec 𝓤 H A mem run)
-  meets = walk-meets 𝓤 H A f.ended stayed W (goes-none-slice 𝓤 H A W 1 (0 ∷ []) tt (plain (λ _. R)) kept, tt) (f.clauses 𝓤 H A mem run) (WpFn 𝓤 H (𝓣 .C) (𝓣 .Λ) code.function) (WpFn-mono 𝓤 H (W .laws) 𝓣 code.function) walks
+  meets =
+      walk-meets 𝓤 H A f.ended stayed W (goes-none-slice 𝓤 H A W 1 (0 ∷ []) tt (plain (λ _. R)) kept, tt) (f.clauses 𝓤 H A mem run)
+      (WpFn 𝓤 H (𝓣 .C) (𝓣 .Λ) code.function) (WpFn-mono 𝓤 H (W .laws) 𝓣 code.function) walks
 
 pub all-small-spec : {M : Type 1} → stated.statement M
 unfolding code.routine tablesOf
@@ -235,4 +269,5 @@ all-small-spec 𝓤 H 𝓜 𝓖 𝓡 =
     (tables 𝓤 H 𝓜 𝓡 code.env .C) (tables 𝓤 H 𝓜 𝓡 code.env .Λ) #records·all-small code.function (code.unfolded 𝓤 H 𝓜 𝓡)
     (meets 𝓤 H (𝓖 .A) (givenOf 𝓤 H 𝓜 𝓖) (𝓜 .mem) (𝓡 .run) (tablesOf 𝓤 H 𝓜 (tables 𝓤 H 𝓜 𝓡 code.env))
     (cited 𝓤 H (AtMost 𝓤 H (𝓖 .A) (𝓜 .mem) (𝓡 .run)) 𝓜 𝓡 code.env #records·at-most at-most-def.routine code.calls-records·at-most (at-most-thm.met 𝓤 H 𝓜 𝓖 𝓡))
-    (cited 𝓤 H (Still 𝓤 H (𝓖 .A) (𝓜 .mem) (𝓡 .run)) 𝓜 𝓡 code.env #records·still-small still-def.routine code.calls-records·still-small (still-thm.met 𝓤 H 𝓜 𝓖 𝓡)))
+    (cited 𝓤 H (Still 𝓤 H (𝓖 .A) (𝓜 .mem) (𝓡 .run)) 𝓜 𝓡 code.env #records·still-small still-def.routine code.calls-records·still-small
+    (still-thm.met 𝓤 H 𝓜 𝓖 𝓡)))

@@ -8,7 +8,7 @@ use mathlib.Core.List.{List}
 use lib.ListN.{length}
 use borrow.Author.Needs.{needs}
 use Rattle.records.specs.declared.Link.{Link}
-use Rattle.records.specs.Records.{filled}
+use Rattle.records.specs.Records.{columnPut}
 use Rattle.records.specs.RecordsLaws.{filled-none, filled-more}
 use Rattle.records.proofs.spread.Statement.{statement}
 use Rattle.records.proofs.spread.Tie as tie
@@ -16,7 +16,8 @@ use Rattle.records.proofs.spread.Tie as tie
 abbrev Inv-loop : tie.InvT-loop
 Inv-loop count end1₀ end2₀ cost₀ mark₀ links n i₀ end1 end2 cost mark i =
     ((i ≤ n) × (n ≤ 256)) ×
-    ((end1 ≡ filled (λ l. l .end1) i links end1₀) × (end2 ≡ filled (λ l. l .end2) i links end2₀) × (cost ≡ filled (λ l. l .cost) i links cost₀) × (mark ≡ filled (λ l. l .mark) i links mark₀))
+    ((end1 ≡ columnPut (λ l. l .end1) i links end1₀) × (end2 ≡ columnPut (λ l. l .end2) i links end2₀) × (cost ≡ columnPut
+    (λ l. l .cost) i links cost₀) × (mark ≡ columnPut (λ l. l .mark) i links mark₀))
 
 abbrev μ-loop : tie.MeasureT-loop
 μ-loop count end1₀ end2₀ cost₀ mark₀ links n i₀ end1 end2 cost mark i = n - i
@@ -26,8 +27,15 @@ at-most-requires c κs = search needs
 
 loop-holds : tie.Need-loop-holds Inv-loop μ-loop
 loop-holds c =
-    let a = c .before .args in
-    ((omega arith, omega (arith, c .at-most .ensures)), (filled-none (λ l. l .end1) (a .t2) (a .end1 .now), filled-none (λ l. l .end2) (a .t2) (a .end2 .now), filled-none (λ l. l .cost) (a .t2) (a .cost .now), filled-none (λ l. l .mark) (a .t2) (a .mark .now)))
+    let a = c .before .args in (
+      (omega arith, omega (arith, c .at-most .ensures)),
+      (
+        filled-none (λ l. l .end1) (a .t2) (a .end1 .now),
+        filled-none (λ l. l .end2) (a .t2) (a .end2 .now),
+        filled-none (λ l. l .cost) (a .t2) (a .cost .now),
+        filled-none (λ l. l .mark) (a .t2) (a .mark .now),
+      ),
+    )
 
 mul-l : tie.Need-mul-l Inv-loop μ-loop
 mul-l c = omega arith
@@ -81,16 +89,21 @@ loop-again c =
       ),
     )
 
-stop : (f : Link → ℕ) {i n : ℕ} (ys : List Link) (old now : List ℕ) → i ≡ n → now ≡ filled f i ys old → now ≡ filled f n ys old
-stop f ys old now e so = so ∙ ap (λ (j : ℕ). filled f j ys old) e
+stop : (f : Link → ℕ) {i n : ℕ} (ys : List Link) (old now : List ℕ) → i ≡ n → now ≡ columnPut f i ys old → now ≡ columnPut f n ys old
+stop f ys old now e so = so ∙ ap (λ (j : ℕ). columnPut f j ys old) e
 
 returns : tie.Need-returns Inv-loop μ-loop
 returns c =
     let st = c .before .before .before in
     let a = st .args in
     let l = c .before .loop in
-    let all : l .i ≡ min (a .count) 256 = omega (arith, l .inv .0 .0, c .loop-test .left, c .before .before .at-most .ensures) in
-    (stop (λ r. r .end1) (a .t2) _ _ all (l .inv .1 .0), (stop (λ r. r .end2) (a .t2) _ _ all (l .inv .1 .1), (stop (λ r. r .cost) (a .t2) _ _ all (l .inv .1 .2), stop (λ r. r .mark) (a .t2) _ _ all (l .inv .1 .3))))
+    let all : l .i ≡ min (a .count) 256 = omega (arith, l .inv .0 .0, c .loop-test .left, c .before .before .at-most .ensures) in (
+      stop (λ r. r .end1) (a .t2) _ _ all (l .inv .1 .0),
+      (
+        stop (λ r. r .end2) (a .t2) _ _ all (l .inv .1 .1),
+        (stop (λ r. r .cost) (a .t2) _ _ all (l .inv .1 .2), stop (λ r. r .mark) (a .t2) _ _ all (l .inv .1 .3)),
+      ),
+    )
 
 pub spread-spec : {M : Type 1} → statement M
 spread-spec =

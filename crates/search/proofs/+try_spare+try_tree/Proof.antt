@@ -21,7 +21,7 @@ use Rattle.search.proofs.+try_spare+try_tree.Lts-try_tree as try-tree-l
 use Rattle.bits.proofs.has.Reads as has-reads
 use Rattle.bits.proofs.with.Reads as with-reads
 use Rattle.search.proofs.goal_covers.Reads as goal-covers-reads
-use Rattle.sets.proofs.next.Reads as next-reads
+use Rattle.set_rows.proofs.next.Reads as next-reads
 use Rattle.sets.proofs.remove.Reads as remove-reads
 use Rattle.search.proofs.+try_spare+try_tree.{statement}
 use Rattle.search.proofs.+try_spare+try_tree.Tie.{close}
@@ -98,7 +98,8 @@ try-spare-returns t c =
     let e = c .before .before .before .before .before in
     let a = e .args in
     let i = c .before .before .before .remove in
-    spare-free (a .t .0) (a .s .0) (a .goal .0) (a .rows .now) (a .mates .now) (a .tree-seen .now) (a .live .now) (i .last .0) (e .pre .1 .0) (e .pre .1 .2 .mates-length) (i .ensures .1) (i .ensures .0) (c .if1 .taken)
+    spare-free (a .t .0) (a .s .0) (a .goal .0) (a .rows .now) (a .mates .now) (a .tree-seen .now) (a .live .now) (i .last .0) (e .pre .1 .0)
+    (e .pre .1 .2 .mates-length) (i .ensures .1) (i .ensures .0) (c .if1 .taken)
 
 try-spare-sub-has : (t : ℕ) → try-spare-lts.Need-sub-has (
   remove-reads.Asked,
@@ -134,7 +135,8 @@ try-spare-returns-2 t c =
     let e = c .before .before .before .before .before .before .before .before in
     let a = e .args in
     let i = c .before .before .before .before .before .before .remove in
-    spare-seen (a .t .0) (a .s .0) (a .goal .0) (a .rows .now) (a .mates .now) (a .tree-seen .now) (a .live .now) (i .last .0) (e .pre .1 .0) (e .pre .1 .2 .mates-length) (i .ensures .1) (i .ensures .0) (c .before .before .before .if1 .left)
+    spare-seen (a .t .0) (a .s .0) (a .goal .0) (a .rows .now) (a .mates .now) (a .tree-seen .now) (a .live .now) (i .last .0) (e .pre .1 .0)
+    (e .pre .1 .2 .mates-length) (i .ensures .1) (i .ensures .0) (c .before .before .before .if1 .left)
     (sym (c .before .has .ensures) ∙ c .if2 .taken)
 
 try-spare-add-mates : (t : ℕ) → try-spare-lts.Need-add-mates (
@@ -190,7 +192,8 @@ try-spare-try-tree-requires t c κs =
     let a = e .args in
     let i = c .before .before .before .before .before .before .before .before .before .before .remove in
     let r = e .pre .1 .2 in
-    let l : getD (a .mates .now) (a .s .0) 0 - 1 < 64 = omega (arith, c .before .before .before .before .before .before .before .if1 .left, r .below (a .s .0)) in (
+    let l : getD (a .mates .now) (a .s .0) 0 - 1 < 64 = omega
+    (arith, c .before .before .before .before .before .before .before .if1 .left, r .below (a .s .0)) in (
       omega (arith, e .pre .0, spare-visited (a .tree-seen .now) (a .live .now) (i .last .0) (a .s .0) (e .pre .1 .0) (e .pre .1 .1) (i .ensures .0)),
       (
         sym (c .before .before .before .before .before .has .ensures) ∙ c .before .before .before .before .if2 .left,
@@ -215,7 +218,8 @@ try-spare-returns-3 t c =
     let e = c .before .before .before .before .before .before .before .before .before .before .before .before .before .before in
     let a = e .args in
     let i = c .before .before .before .before .before .before .before .before .before .before .before .before .remove in
-    spare-led (a .t .0) (a .s .0) (a .goal .0) (a .rows .now) (a .mates .now) (a .tree-seen .now) (a .live .now) (i .last .0) (e .pre .1 .0) (e .pre .1 .2 .mates-length) (i .ensures .1) (i .ensures .0) (c .before .before .before .before .before .before .before .before .before .if1 .left)
+    spare-led (a .t .0) (a .s .0) (a .goal .0) (a .rows .now) (a .mates .now) (a .tree-seen .now) (a .live .now) (i .last .0) (e .pre .1 .0)
+    (e .pre .1 .2 .mates-length) (i .ensures .1) (i .ensures .0) (c .before .before .before .before .before .before .before .before .before .if1 .left)
     (sym (c .before .before .before .before .before .before .before .has .ensures) ∙ c .before .before .before .before .before .before .if2 .left)
     (c .before .try-tree .last .1 .1 .1 .0) (c .before .try-tree .last .1 .1 .1 .1 .0) (c .before .try-tree .last .1 .1 .1 .1 .1 .0)
     (rw (c .if3 .taken) at (c .before .try-tree .ensures))
@@ -252,7 +256,8 @@ try-spare-returns-4 t c =
     let e = c .before .before .before .before .before .before .before .before .before .before .before .before .before .before in
     let a = e .args in
     let i = c .before .before .before .before .before .before .before .before .before .before .before .before .remove in
-    spare-failed (a .t .0) (a .s .0) (a .goal .0) (a .rows .now) (a .mates .now) (a .tree-seen .now) (a .live .now) (i .last .0) (e .pre .1 .0) (e .pre .1 .2 .mates-length) (i .ensures .1) (i .ensures .0) (c .before .before .before .before .before .before .before .before .before .if1 .left)
+    spare-failed (a .t .0) (a .s .0) (a .goal .0) (a .rows .now) (a .mates .now) (a .tree-seen .now) (a .live .now) (i .last .0) (e .pre .1 .0)
+    (e .pre .1 .2 .mates-length) (i .ensures .1) (i .ensures .0) (c .before .before .before .before .before .before .before .before .before .if1 .left)
     (sym (c .before .before .before .before .before .before .before .has .ensures) ∙ c .before .before .before .before .before .before .if2 .left)
     (c .before .try-tree .last .1 .1 .1 .0) (c .before .try-tree .last .1 .1 .1 .1 .0) (c .before .try-tree .last .1 .1 .1 .1 .1 .0)
     (rw (c .if3 .left) at (c .before .try-tree .ensures))
@@ -324,7 +329,11 @@ try-tree-element-write-mates : (t : ℕ) → try-tree-lts.Need-element-write-mat
 ) (try-tree-at t) try-tree.Post try-tree-Inv-loop try-tree-μ-loop
 try-tree-element-write-mates t c =
     let a = c .before .before .before .before .args in
-    omega (arith, goal-within (a .t .0) (a .goal .0) (a .rows .now) (a .mates .now) (a .tree-seen .now) (a .live .now) (sym (c .before .before .before .goal-covers .ensures) ∙ c .before .before .if1 .taken))
+    omega (
+      arith,
+      goal-within (a .t .0) (a .goal .0) (a .rows .now) (a .mates .now) (a .tree-seen .now) (a .live .now)
+          (sym (c .before .before .before .goal-covers .ensures) ∙ c .before .before .if1 .taken),
+    )
 
 try-tree-returns : (t : ℕ) → try-tree-lts.Need-returns (
   goal-covers-reads.Asked,
@@ -339,7 +348,8 @@ try-tree-returns : (t : ℕ) → try-tree-lts.Need-returns (
 try-tree-returns t c =
     let e = c .before .before .before .before in
     let a = e .args in
-    tree-hit (a .t .0) (a .goal .0) (a .rows .now) (a .mates .now) (a .tree-seen .now) (a .live .now) (sym (c .before .before .before .goal-covers .ensures) ∙ c .before .before .if1 .taken) (e .pre .1 .1 .mates-length) (e .pre .1 .1 .live-length)
+    tree-hit (a .t .0) (a .goal .0) (a .rows .now) (a .mates .now) (a .tree-seen .now) (a .live .now)
+    (sym (c .before .before .before .goal-covers .ensures) ∙ c .before .before .if1 .taken) (e .pre .1 .1 .mates-length) (e .pre .1 .1 .live-length)
 
 try-tree-with-requires : (t : ℕ) → try-tree-lts.Need-with-requires (
   goal-covers-reads.Asked,
@@ -386,7 +396,8 @@ try-tree-loop-holds t c =
     let e = f .before .before .before .before in
     let a = e .args in
     let en = try-tree-entered t f in
-    passing-start (a .t .0) (a .goal .0) (a .rows .now) (a .mates .now) (a .tree-seen .now) (a .live .now) (f .with .result) en (e .pre .1 .1 .mates-length) (e .pre .1 .1 .live-length)
+    passing-start (a .t .0) (a .goal .0) (a .rows .now) (a .mates .now) (a .tree-seen .now) (a .live .now) (f .with .result) en (e .pre .1 .1 .mates-length)
+    (e .pre .1 .1 .live-length)
 
 try-tree-next-requires : (t : ℕ) → try-tree-lts.Need-next-requires (
   goal-covers-reads.Asked,
@@ -416,7 +427,8 @@ try-tree-returns-2 t c =
     let a = e .args in
     let en = try-tree-entered t f in
     let l = c .before .before .before .loop in
-    passing-end (a .t .0) (a .goal .0) (a .rows .now) (a .mates .now) (a .tree-seen .now) (a .live .now) (f .with .result) en (l .mates) (l .tree-seen) (l .live) (l .inv) (c .before .next .result) (c .before .next .ensures) (c .if2 .taken)
+    passing-end (a .t .0) (a .goal .0) (a .rows .now) (a .mates .now) (a .tree-seen .now) (a .live .now) (f .with .result) en (l .mates) (l .tree-seen)
+    (l .live) (l .inv) (c .before .next .result) (c .before .next .ensures) (c .if2 .taken)
 
 try-tree-try-spare-requires : (t : ℕ) → try-tree-lts.Need-try-spare-requires (
   goal-covers-reads.Asked,
@@ -436,7 +448,12 @@ try-tree-try-spare-requires t c κs =
     let l = c .before .before .before .before .before .before .loop in
     let n = c .before .before .before .before .next in
     let found = next-hit (a .rows .now) (l .live) (a .t .0) (n .result) (n .ensures) (c .before .before .before .if2 .left) in (
-      omega (arith, e .pre .0, tree-visited (a .t .0) (a .goal .0) (a .rows .now) (a .mates .now) (a .tree-seen .now) (a .live .now) (f .with .result) en (e .pre .1 .1 .rank) (e .pre .1 .0) (l .mates) (l .tree-seen) (l .live) (l .inv)),
+      omega (
+        arith,
+        e .pre .0,
+        tree-visited (a .t .0) (a .goal .0) (a .rows .now) (a .mates .now) (a .tree-seen .now) (a .live .now) (f .with .result) en
+            (e .pre .1 .1 .rank) (e .pre .1 .0) (l .mates) (l .tree-seen) (l .live) (l .inv),
+      ),
       (
         found .0,
         found .2,
@@ -467,8 +484,10 @@ try-tree-returns-3 t c =
     let l = c .before .before .before .before .before .before .before .before .loop in
     let n = c .before .before .before .before .before .before .next in
     let r = c .before .try-spare in
-    passing-met (a .t .0) (a .goal .0) (a .rows .now) (a .mates .now) (a .tree-seen .now) (a .live .now) (f .with .result) en (l .mates) (l .tree-seen) (l .live) (l .inv) (n .result) (n .ensures)
-    (e .pre .1 .1 .rank) (e .pre .1 .1 .below) (c .before .before .before .before .before .if2 .left) (r .last .1 .1 .1 .1 .0) (r .last .1 .1 .1 .1 .1 .0) (r .last .1 .1 .1 .1 .1 .1 .0)
+    passing-met (a .t .0) (a .goal .0) (a .rows .now) (a .mates .now) (a .tree-seen .now) (a .live .now) (f .with .result) en (l .mates) (l .tree-seen)
+    (l .live) (l .inv) (n .result) (n .ensures)
+    (e .pre .1 .1 .rank) (e .pre .1 .1 .below) (c .before .before .before .before .before .if2 .left) (r .last .1 .1 .1 .1 .0) (r .last .1 .1 .1 .1 .1 .0)
+    (r .last .1 .1 .1 .1 .1 .1 .0)
     (rw (c .if3 .taken) at (r .ensures))
 
 try-tree-loop-less : (t : ℕ) → try-tree-lts.Need-loop-less (
@@ -489,8 +508,10 @@ try-tree-loop-less t c =
     let l = c .before .before .before .before .before .before .before .before .loop in
     let n = c .before .before .before .before .before .before .next in
     let r = c .before .try-spare in
-    passing-less (a .t .0) (a .goal .0) (a .rows .now) (a .mates .now) (a .tree-seen .now) (a .live .now) (f .with .result) en (l .mates) (l .tree-seen) (l .live) (l .inv) (n .result) (n .ensures)
-    (e .pre .1 .1 .rank) (e .pre .1 .1 .below) (c .before .before .before .before .before .if2 .left) (r .last .1 .1 .1 .1 .0) (r .last .1 .1 .1 .1 .1 .0) (r .last .1 .1 .1 .1 .1 .1 .0)
+    passing-less (a .t .0) (a .goal .0) (a .rows .now) (a .mates .now) (a .tree-seen .now) (a .live .now) (f .with .result) en (l .mates) (l .tree-seen)
+    (l .live) (l .inv) (n .result) (n .ensures)
+    (e .pre .1 .1 .rank) (e .pre .1 .1 .below) (c .before .before .before .before .before .if2 .left) (r .last .1 .1 .1 .1 .0) (r .last .1 .1 .1 .1 .1 .0)
+    (r .last .1 .1 .1 .1 .1 .1 .0)
     (rw (c .if3 .left) at (r .ensures))
 
 try-tree-loop-again : (t : ℕ) → try-tree-lts.Need-loop-again (
@@ -511,8 +532,10 @@ try-tree-loop-again t c =
     let l = c .before .before .before .before .before .before .before .before .loop in
     let n = c .before .before .before .before .before .before .next in
     let r = c .before .try-spare in
-    passing-turn (a .t .0) (a .goal .0) (a .rows .now) (a .mates .now) (a .tree-seen .now) (a .live .now) (f .with .result) en (l .mates) (l .tree-seen) (l .live) (l .inv) (n .result) (n .ensures)
-    (e .pre .1 .1 .rank) (e .pre .1 .1 .below) (c .before .before .before .before .before .if2 .left) (r .last .1 .1 .1 .1 .0) (r .last .1 .1 .1 .1 .1 .0) (r .last .1 .1 .1 .1 .1 .1 .0)
+    passing-turn (a .t .0) (a .goal .0) (a .rows .now) (a .mates .now) (a .tree-seen .now) (a .live .now) (f .with .result) en (l .mates) (l .tree-seen)
+    (l .live) (l .inv) (n .result) (n .ensures)
+    (e .pre .1 .1 .rank) (e .pre .1 .1 .below) (c .before .before .before .before .before .if2 .left) (r .last .1 .1 .1 .1 .0) (r .last .1 .1 .1 .1 .1 .0)
+    (r .last .1 .1 .1 .1 .1 .1 .0)
     (rw (c .if3 .left) at (r .ensures))
 
 pub +try-spare+try-tree-spec : {M : Type 1} → statement M

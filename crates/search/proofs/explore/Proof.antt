@@ -12,7 +12,8 @@ returns c =
     let e = c .before .before .before .before in
     let a = e .args in
     let f = c .try-tree in
-    swept (a .t .0) (a .rows .now) (a .mates .now) (a .tree-seen .now) (a .live .now) (f .last .1 .1 .1 .0) (f .last .1 .1 .1 .1 .0) (f .last .1 .1 .1 .1 .1 .0) (f .result) (f .ensures) (e .pre .1)
+    swept (a .t .0) (a .rows .now) (a .mates .now) (a .tree-seen .now) (a .live .now) (f .last .1 .1 .1 .0) (f .last .1 .1 .1 .1 .0)
+    (f .last .1 .1 .1 .1 .1 .0) (f .result) (f .ensures) (e .pre .1)
 
 pub explore-spec : {M : Type 1} → statement M
 explore-spec = tie.close (tie.spec try-tree-requires returns)

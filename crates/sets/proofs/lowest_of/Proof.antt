@@ -26,7 +26,8 @@ add-result c = omega (arith, first-is 64 (bit (c .before .before .before .args .
 returns-2 : tie.Need-returns-2
 returns-2 c =
     let s = c .before .before .before in
-    ap (λ x. 64 + x) (c .lowest2 .ensures) ∙ sym (first-in-two (s .args .a) (s .args .b) (s .args .c) (s .args .d) (s .fits .b .fits) (omega arith) (omega arith))
+    ap (λ x. 64 + x) (c .lowest2 .ensures) ∙
+    sym (first-in-two (s .args .a) (s .args .b) (s .args .c) (s .args .d) (s .fits .b .fits) (omega arith) (omega arith))
 
 lowest-requires-3 : tie.Need-lowest-requires-3
 lowest-requires-3 c κs = search needs
@@ -37,7 +38,8 @@ add-result-2 c = omega (arith, first-is 64 (bit (c .before .before .before .befo
 returns-3 : tie.Need-returns-3
 returns-3 c =
     let s = c .before .before .before .before in
-    ap (λ x. 128 + x) (c .lowest3 .ensures) ∙ sym (first-in-three (s .args .a) (s .args .b) (s .args .c) (s .args .d) (s .fits .c .fits) (omega arith) (omega arith) (omega arith))
+    ap (λ x. 128 + x) (c .lowest3 .ensures) ∙
+    sym (first-in-three (s .args .a) (s .args .b) (s .args .c) (s .args .d) (s .fits .c .fits) (omega arith) (omega arith) (omega arith))
 
 lowest-requires-4 : tie.Need-lowest-requires-4
 lowest-requires-4 c κs = search needs
@@ -48,7 +50,8 @@ add-result-3 c = omega (arith, first-is 64 (bit (c .before .before .before .befo
 returns-4 : tie.Need-returns-4
 returns-4 c =
     let s = c .before .before .before .before .before in
-    ap (λ x. 192 + x) (c .lowest4 .ensures) ∙ sym (first-in-four (s .args .a) (s .args .b) (s .args .c) (s .args .d) (s .fits .d .fits) (omega arith) (omega arith) (omega arith) (omega arith))
+    ap (λ x. 192 + x) (c .lowest4 .ensures) ∙
+    sym (first-in-four (s .args .a) (s .args .b) (s .args .c) (s .args .d) (s .fits .d .fits) (omega arith) (omega arith) (omega arith) (omega arith))
 
 returns-5 : tie.Need-returns-5
 returns-5 c =

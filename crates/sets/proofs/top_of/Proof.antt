@@ -19,7 +19,12 @@ add-result c =
 returns : tie.Need-returns
 returns c =
     let s = c .before .before in
-    omega (arith, c .highest .ensures, top-word (s .args .a ∷ s .args .b ∷ s .args .c ∷ s .args .d ∷ []) 3 (omega arith) (λ i l u. absurd (omega arith)) (omega arith) (s .fits .d .fits))
+    omega (
+      arith,
+      c .highest .ensures,
+      top-word (s .args .a ∷ s .args .b ∷ s .args .c ∷ s .args .d ∷ []) 3 (omega arith) (λ i l u. absurd (omega arith))
+          (omega arith) (s .fits .d .fits),
+    )
 
 highest-requires-2 : tie.Need-highest-requires-2
 highest-requires-2 c κs = search needs
@@ -32,7 +37,12 @@ add-result-2 c =
 returns-2 : tie.Need-returns-2
 returns-2 c =
     let s = c .before .before .before in
-    omega (arith, c .highest2 .ensures, top-word (s .args .a ∷ s .args .b ∷ s .args .c ∷ s .args .d ∷ []) 2 (omega arith) (clear-fourth (s .args .a ∷ s .args .b ∷ s .args .c ∷ s .args .d ∷ []) (omega (arith, c .before .before .if1 .left))) (omega arith) (s .fits .c .fits))
+    omega (
+      arith,
+      c .highest2 .ensures,
+      top-word (s .args .a ∷ s .args .b ∷ s .args .c ∷ s .args .d ∷ []) 2 (omega arith)
+          (clear-fourth (s .args .a ∷ s .args .b ∷ s .args .c ∷ s .args .d ∷ []) (omega (arith, c .before .before .if1 .left))) (omega arith) (s .fits .c .fits),
+    )
 
 highest-requires-3 : tie.Need-highest-requires-3
 highest-requires-3 c κs = search needs
@@ -45,7 +55,13 @@ add-result-3 c =
 returns-3 : tie.Need-returns-3
 returns-3 c =
     let s = c .before .before .before .before in
-    omega (arith, c .highest3 .ensures, top-word (s .args .a ∷ s .args .b ∷ s .args .c ∷ s .args .d ∷ []) 1 (omega arith) (clear-third (s .args .a ∷ s .args .b ∷ s .args .c ∷ s .args .d ∷ []) (omega (arith, c .before .before .if2 .left)) (omega (arith, c .before .before .before .if1 .left))) (omega arith) (s .fits .b .fits))
+    omega (
+      arith,
+      c .highest3 .ensures,
+      top-word (s .args .a ∷ s .args .b ∷ s .args .c ∷ s .args .d ∷ []) 1 (omega arith)
+          (clear-third (s .args .a ∷ s .args .b ∷ s .args .c ∷ s .args .d ∷ []) (omega (arith, c .before .before .if2 .left))
+          (omega (arith, c .before .before .before .if1 .left))) (omega arith) (s .fits .b .fits),
+    )
 
 highest-requires-4 : tie.Need-highest-requires-4
 highest-requires-4 c κs = search needs
@@ -58,12 +74,20 @@ add-result-4 c =
 returns-4 : tie.Need-returns-4
 returns-4 c =
     let s = c .before .before .before .before .before in
-    omega (arith, c .highest4 .ensures, top-word (s .args .a ∷ s .args .b ∷ s .args .c ∷ s .args .d ∷ []) 0 (omega arith) (clear-second (s .args .a ∷ s .args .b ∷ s .args .c ∷ s .args .d ∷ []) (omega (arith, c .before .before .if3 .left)) (omega (arith, c .before .before .before .if2 .left)) (omega (arith, c .before .before .before .before .if1 .left))) (omega arith) (s .fits .a .fits))
+    omega (
+      arith,
+      c .highest4 .ensures,
+      top-word (s .args .a ∷ s .args .b ∷ s .args .c ∷ s .args .d ∷ []) 0 (omega arith)
+          (clear-second (s .args .a ∷ s .args .b ∷ s .args .c ∷ s .args .d ∷ []) (omega (arith, c .before .before .if3 .left))
+          (omega (arith, c .before .before .before .if2 .left)) (omega (arith, c .before .before .before .before .if1 .left))) (omega arith) (s .fits .a .fits),
+    )
 
 returns-5 : tie.Need-returns-5
 returns-5 c =
     let s = c .before .before .before .before in
-    sym (top-none (s .args .a ∷ s .args .b ∷ s .args .c ∷ s .args .d ∷ []) (omega (arith, c .if4 .left)) (clear-second (s .args .a ∷ s .args .b ∷ s .args .c ∷ s .args .d ∷ []) (omega (arith, c .before .if3 .left)) (omega (arith, c .before .before .if2 .left)) (omega (arith, c .before .before .before .if1 .left))))
+    sym (top-none (s .args .a ∷ s .args .b ∷ s .args .c ∷ s .args .d ∷ []) (omega (arith, c .if4 .left))
+    (clear-second (s .args .a ∷ s .args .b ∷ s .args .c ∷ s .args .d ∷ []) (omega (arith, c .before .if3 .left))
+    (omega (arith, c .before .before .if2 .left)) (omega (arith, c .before .before .before .if1 .left))))
 
 pub top-of-spec : {M : Type 1} → statement M
 top-of-spec =

@@ -4,7 +4,7 @@ use Prim.Native.Nat.{ℕ, _-_, _≤_, _<_}
 use native.Mathlib.Decide.{ℕ-discrete}
 use native.Mathlib.Omega.{arith}
 use lib.ListN.{getD}
-use Rattle.solution.specs.Asked.{costAt}
+use Rattle.graph.specs.Rank.{costAt}
 use Rattle.solution.specs.RowLaws.{limit-is}
 use Rattle.solution.proofs.dearer.Statement.{statement}
 use Rattle.solution.proofs.dearer.Tie as tie

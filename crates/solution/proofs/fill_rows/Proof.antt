@@ -5,8 +5,8 @@ use Prim.Native.Nat.{ℕ, _-_, _≤_, _<_}
 use mathlib.Core.Path.{_≡_, ap, _∙_}
 use native.Mathlib.Omega.{arith}
 use lib.ListN.{length, getD, length-replicate}
-use Rattle.solution.specs.Asked.{costAt}
-use Rattle.solution.specs.RowLaws.{limit-all, limit-cuts, Filled, rows-start, rows-turn, rows-end}
+use Rattle.graph.specs.Rank.{costAt}
+use Rattle.solution.specs.RowLaws.{limit-all, limit-cuts, RowsHold, rows-start, rows-turn, rows-end}
 use Rattle.solution.proofs.fill_rows.Statement.{statement}
 use Rattle.solution.proofs.fill_rows.Tie as tie
 
@@ -14,7 +14,7 @@ abbrev Inv-loop : tie.InvT-loop
 Inv-loop trees q cost ts ss end1 end2 mask rows₀ limit₀ s₀ rows limit s =
     (s ≤ q) × (limit ≤ trees) × (length rows ≡ 256)
     × ((t′ s′ : ℕ) → limit ≤ t′ → t′ < trees → s ≤ s′ → s′ < q → costAt cost ts t′ ≤ costAt cost ss s′)
-    × Filled cost ts ss end1 end2 mask trees s rows
+    × RowsHold cost ts ss end1 end2 mask trees s rows
 
 abbrev μ-loop : tie.MeasureT-loop
 μ-loop trees q cost ts ss end1 end2 mask rows₀ limit₀ s₀ rows limit s = q - s

@@ -4,9 +4,9 @@ use mathlib.Core.Path.{_≡_, refl}
 use native.Mathlib.Omega.{arith}
 use borrow.Author.Needs.{needs}
 use lib.ListN.{getD}
-use Rattle.loops.specs.Loop.{sum}
+use Rattle.loops.specs.Below.{sum}
 use Rattle.optimum.specs.Solve.{gap}
-use Rattle.solution.specs.CountLaws.{sum-more}
+use Rattle.loops.specs.SumLaws.{sum-more}
 use Rattle.solution.proofs.steps.Statement.{statement}
 use Rattle.solution.proofs.steps.Tie as tie
 

@@ -3,7 +3,7 @@ use mathlib.Core.Path.{refl, ap, _∙_}
 use native.Mathlib.Omega.{arith}
 use lib.ListN.{length, getD}
 use Rattle.solve.specs.CostLaws.{costed}
-use Rattle.job.specs.Held.{zero-at, length-zeros}
+use Rattle.links.specs.ColumnLaws.{zero-at, length-zeros}
 use borrow.Author.Needs.{needs}
 use Rattle.solve.proofs.new_costs.Statement.{statement}
 use Rattle.solve.proofs.new_costs.Tie as tie
@@ -56,7 +56,9 @@ returns c =
     let l = p .before .before .before in
     let st = l .before .before .before .before in
     let a = st .args in
-    costed (a .trees) (a .spares) (a .cost .now) (a .ts .now) (a .ss .now) (a .rows .now) (a .mates .now) (l .label .last .1 .1 .1 .1 .1 .1 .1 .0) (l .label .last .1 .1 .1 .1 .1 .1 .1 .1 .0) (l .label .last .1 .1 .1 .1 .1 .1 .1 .1 .1 .0) (a .costs .now) (p .place .last .1 .1 .1 .0) (c .place2 .last .1 .1 .1 .0)
+    costed (a .trees) (a .spares) (a .cost .now) (a .ts .now) (a .ss .now) (a .rows .now) (a .mates .now) (l .label .last .1 .1 .1 .1 .1 .1 .1 .0)
+    (l .label .last .1 .1 .1 .1 .1 .1 .1 .1 .0) (l .label .last .1 .1 .1 .1 .1 .1 .1 .1 .1 .0) (a .costs .now) (p .place .last .1 .1 .1 .0)
+    (c .place2 .last .1 .1 .1 .0)
     (l .label .ensures) (st .pre .empty) (p .place .ensures .0) (c .place2 .ensures .0)
 
 pub new-costs-spec : {M : Type 1} → statement M

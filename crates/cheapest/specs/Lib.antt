@@ -1,0 +1,4 @@
+-- The judge of trees over arrays.
+pub mod Judge
+pub mod LeadLaws
+pub mod JudgeLaws

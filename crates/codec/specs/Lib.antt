@@ -1,0 +1,7 @@
+-- Numbers in a frame, one behind the other.
+pub mod Numbers
+pub mod NumberLaws
+pub mod ListLaws
+pub mod WritingLaws
+pub mod Held
+pub mod HeldLaws

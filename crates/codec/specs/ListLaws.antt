@@ -1,0 +1,96 @@
+-- Laws of the first n numbers of a list: one number more, the bytes they take, a number stored behind them; and of numbers
+-- read into a list. Assumes nothing.
+use Prim.Native.Nat.{ℕ, zero, suc, _+_, _-_, _*_, _<_, _≤_}
+use native.Mathlib.Decide.{decLe}
+use native.Mathlib.Numerals.{add-one}
+use native.Mathlib.Omega.{arith}
+use mathlib.Core.Path.{_≡_, refl, sym, ap, ap₂, _∙_}
+use mathlib.Core.List.{List, [], _∷_, _++_, flatMap, append-nil}
+use lib.ListN.{length, getD, set, take, drop, length-append}
+use lib.Seq.{sets, getD-set-same, getD-set-other}
+use Rattle.loops.specs.Loop.{scan, gather}
+use Rattle.loops.specs.ScanLaws.{scan-turn}
+use Rattle.loops.specs.GatherLaws.{length-tabulate}
+use Rattle.number.specs.Number.{encode}
+use Rattle.number.specs.Laws.{encode-size-most}
+use Rattle.limits.specs.Limits.{numberBytes}
+use Rattle.frame.specs.Job.{bytesOf}
+use Rattle.frame.specs.Meaning.{Divides}
+use Rattle.frame.specs.RoundTrip.{flatMap-append}
+use Rattle.codec.specs.declared.Taken.{Taken}
+use Rattle.codec.specs.Numbers.{takenAt, numbersAt, Loaded, loadedAt, load}
+use Rattle.codec.specs.NumberLaws.{next-number}
+
+-- A gathered list grows from turn to turn.
+pub gather-within :
+    {A B : Type 0} (g : List A → List B) (f : ℕ → List A) →
+    ((e : ℕ) → length (g (gather e f)) ≤ length (g (gather (e + 1) f))) →
+    (e n : ℕ) → e ≤ n → length (g (gather e f)) ≤ length (g (gather n f))
+gather-within g f more e zero l =
+    let none : e ≡ 0 = omega arith in
+    rw none (omega arith)
+gather-within g f more e (suc n) l =
+    elim (decLe e n) [
+      | yes k ↦ omega (arith, gather-within g f more e n k, rw add-one at (more n))
+      | no k ↦ let all : e ≡ suc n = omega arith in rw all (omega arith)
+    ]
+
+-- Equal parts make equal lists.
+pub gather-same : {A : Type 0} (n : ℕ) (f g : ℕ → List A) → ((i : ℕ) → i < n → f i ≡ g i) → gather n f ≡ gather n g
+unfolding gather
+gather-same zero f g h = refl
+gather-same (suc n) f g h = ap₂ _++_ (gather-same n f g (λ i l. h i (omega arith))) (h n (omega arith))
+
+-- A number takes at most two bytes.
+pub bytes-short : (ns : List ℕ) → length (bytesOf ns) ≤ 2 * length ns
+unfolding flatMap
+bytes-short [] = omega arith
+bytes-short (x ∷ ns) = omega (arith, bytes-short ns, encode-size-most numberBytes x, length-append (encode numberBytes x) (bytesOf ns))
+
+module _ (xs : List ℕ) where
+  -- One number more.
+  pub numbers-more : (n : ℕ) → numbersAt (n + 1) xs ≡ numbersAt n xs ++ (getD xs n 0 ∷ [])
+  unfolding gather
+  numbers-more n = rw (add-one n)
+
+  pub bytes-more : (n : ℕ) → bytesOf (numbersAt (n + 1) xs) ≡ bytesOf (numbersAt n xs) ++ encode numberBytes (getD xs n 0)
+  unfolding flatMap
+  bytes-more n = rw (numbers-more n, flatMap-append (encode numberBytes) (numbersAt n xs) (getD xs n 0 ∷ []), append-nil (encode numberBytes (getD xs n 0)))
+
+  pub size-more : (n : ℕ) → length (bytesOf (numbersAt (n + 1) xs)) ≡ length (bytesOf (numbersAt n xs)) + length (encode numberBytes (getD xs n 0))
+  size-more n = ap length (bytes-more n) ∙ length-append (bytesOf (numbersAt n xs)) (encode numberBytes (getD xs n 0))
+
+  pub size-within : (n m : ℕ) → n ≤ m → length (bytesOf (numbersAt n xs)) ≤ length (bytesOf (numbersAt m xs))
+  size-within = gather-within bytesOf (λ i. getD xs i 0 ∷ []) (λ n. omega (arith, size-more n))
+
+  pub size-short : (n : ℕ) → length (bytesOf (numbersAt n xs)) ≤ 2 * n
+  size-short n = omega (arith, bytes-short (numbersAt n xs), length-tabulate (λ i. getD xs i 0) n)
+
+  -- A number stored behind the first n.
+  pub numbers-stored : (n v : ℕ) → n < length xs → numbersAt (n + 1) (set xs n v) ≡ numbersAt n xs ++ (v ∷ [])
+  unfolding gather
+  numbers-stored n v l =
+      rw (add-one n, getD-set-same xs n v 0 l)
+      (ap (λ (ns : List ℕ). ns ++ (v ∷ []))
+      (gather-same n (λ i. getD (set xs n v) i 0 ∷ []) (λ i. getD xs i 0 ∷ []) (λ i b. ap (λ (x : ℕ). x ∷ []) (getD-set-other xs n i v 0 (omega arith)))))
+
+-- A turn of the reader.
+pub number-turn :
+    (s : List ℕ) (n i : ℕ) (l whole : Loaded) → scan (load s) (n - i) i l ≡ whole → i < n
+    → (t : Taken) → t ≡ takenAt s (l .next)
+    → scan (load s) (n - (i + 1)) (i + 1) (loadedAt (t .next) (set (l .values) i (t .value))) ≡ whole
+unfolding load
+number-turn s n i l whole q k t p = rw p (sym (scan-turn (load s) n i l k) ∙ q)
+
+-- Where a part of a frame divides, its numbers are read.
+pub load-numbers :
+    (s : List ℕ) (n i at : ℕ) (ns xs : List ℕ) → at ≤ length s → Divides (drop at s) ns → n ≤ length ns
+    → scan (load s) n i (loadedAt at xs) ≡ loadedAt (at + length (bytesOf (take n ns))) (sets xs i (take n ns))
+unfolding scan flatMap load
+load-numbers s zero i at ns xs w d l = ap (λ (p : ℕ). loadedAt p xs) (omega arith)
+load-numbers s (suc n) i at [] xs w d l = absurd (omega arith)
+load-numbers s (suc n) i at (v ∷ ns) xs w d l =
+    let k = next-number s ns v at w d in
+    rw (k .here)
+    (load-numbers s n (suc i) (k .next) ns (set xs i v) (k .within) (k .rest) (omega arith)
+    ∙ ap (λ (p : ℕ). loadedAt p (sets (set xs i v) (suc i) (take n ns))) (simp length-append (omega (arith, k .size))))

@@ -1,0 +1,16 @@
+-- `division::may_follow` meets its contract, by its two tests. Assumes nothing.
+use borrow.Author.Tests.{lt-ltb, le-ltb, eq-eqb, ne-eqb}
+use Rattle.division.proofs.may_follow.Statement.{statement}
+use Rattle.division.proofs.may_follow.Tie as tie
+
+returns : tie.Need-returns
+returns c = let a = c .before .args in rw (lt-ltb (a .a) 128 (c .if1 .taken))
+
+returns-2 : tie.Need-returns-2
+returns-2 c = let a = c .before .before .args in rw (le-ltb (a .a) 128 (c .before .if1 .left), eq-eqb (a .b) 0 (c .if2 .taken))
+
+returns-3 : tie.Need-returns-3
+returns-3 c = let a = c .before .before .args in rw (le-ltb (a .a) 128 (c .before .if1 .left), ne-eqb (a .b) 0 (c .if2 .left))
+
+pub may-follow-spec : {M : Type 1} → statement M
+may-follow-spec = tie.close (tie.spec returns returns-2 returns-3)

@@ -1,0 +1,3 @@
+-- What is put into arrays, and laws about it.
+pub mod Filling
+pub mod FillLaws

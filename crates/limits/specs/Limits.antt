@@ -1,0 +1,34 @@
+-- The limits of the format. Definitions only. Assumes nothing.
+use Prim.Native.Nat.{ℕ, _^_, _-_}
+
+-- Stations and links of a job.
+abbrev pub maxNodes : ℕ
+maxNodes = 64
+
+abbrev pub maxEdges : ℕ
+maxEdges = 256
+
+-- The bytes of a number, and of the step count.
+abbrev pub numberBytes : ℕ
+numberBytes = 2
+
+abbrev pub stepBytes : ℕ
+stepBytes = 3
+
+-- The largest number that fits into k bytes; the largest of a job: 16,383.
+abbrev pub largest : ℕ → ℕ
+largest k = 128 ^ k - 1
+
+abbrev pub maxNumber : ℕ
+maxNumber = largest numberBytes
+
+-- The longest job frame and the longest answer frame, in bytes: laws of crate `frame`.
+abbrev pub jobMost : ℕ
+jobMost = 1283
+
+abbrev pub answerMost : ℕ
+answerMost = 768
+
+-- The mark of a tree link.
+abbrev pub treeMark : ℕ
+treeMark = 1

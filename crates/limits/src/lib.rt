@@ -1,0 +1,29 @@
+// The limits of the format, once for all code. specs/Limits.antt has them for the definitions: a function whose constant
+// differed from its definition's would not be proved.
+
+// Stations of a job.
+pub const MOST_NODES: u32 = 64;
+
+// Links of a job; and the same as a count.
+pub const MOST_EDGES: u32 = 256;
+
+pub const MOST_COUNT: usize = MOST_EDGES as usize;
+
+// The bytes of the step count.
+pub const STEP_BYTES: u32 = 3;
+
+// The largest number of a job; the same as a list's length, and the first length above it.
+pub const MOST_NUMBER: u32 = 16383;
+
+pub const MOST_LENGTH: usize = MOST_NUMBER as usize;
+
+pub const TOO_LONG: usize = MOST_LENGTH + 1;
+
+// The longest job frame, in bytes.
+pub const JOB_MOST: usize = 1283;
+
+// The longest answer frame.
+pub const ANSWER_MOST: usize = 768;
+
+// The mark of a tree link.
+pub const TREE_MARK: u32 = 1;

@@ -1,0 +1,131 @@
+-- `links::check_list` meets its contract: each return is the first "no", by the tests that led there.
+-- Assumes nothing.
+use Prim.Native.Nat.{ℕ, min}
+use native.Mathlib.Omega.{arith}
+use mathlib.Core.Path.{_≡_, sym, ap, _∙_}
+use borrow.Author.Tests.{not-true, not-false}
+use Rattle.links.specs.Columns.{linksSmall}
+use Rattle.links.specs.ListLaws.{check-large-nodes, check-large-edges, check-large, check-empty, check-nodes, check-edges, check-ends, check-marks, check-passed}
+use borrow.Author.Needs.{needs}
+use Rattle.links.proofs.check_list.Statement.{statement}
+use Rattle.links.proofs.check_list.Tie as tie
+
+-- question 1 of the links held
+small-answer :
+    (k : tie.After-links-small) →
+    let a = k .before .before .before .before .args in
+    k .links-small .result ≡ linksSmall (min (a .edges) 256) (a .end1 .now) (a .end2 .now) (a .cost .now) (a .mark .now)
+small-answer k =
+    let a = k .before .before .before .before .args in
+    k .links-small .ensures ∙ ap (λ (n : ℕ). linksSmall n (a .end1 .now) (a .end2 .now) (a .cost .now) (a .mark .now)) (k .before .held .ensures)
+
+returns : tie.Need-returns
+returns c =
+    let t = c .before in
+    let a = t .args in
+    sym (check-large-nodes (a .nodes) (a .edges) (a .end1 .now) (a .end2 .now) (a .cost .now) (a .mark .now) (t .pre) (c .if1 .taken))
+
+returns-2 : tie.Need-returns-2
+returns-2 c =
+    let t = c .before .before in
+    let a = t .args in
+    sym (check-large-edges (a .nodes) (a .edges) (a .end1 .now) (a .end2 .now) (a .cost .now) (a .mark .now) (t .pre) (c .before .if1 .left) (c .if2 .taken))
+
+held-requires : tie.Need-held-requires
+held-requires c κs = search needs
+
+links-small-requires : tie.Need-links-small-requires
+links-small-requires c κs = search needs
+
+returns-3 : tie.Need-returns-3
+returns-3 c =
+    let t = c .before .before .before .before .before in
+    let a = t .args in
+    sym (check-large (a .nodes) (a .edges) (a .end1 .now) (a .end2 .now) (a .cost .now) (a .mark .now) (t .pre) (c .before .before .before .before .if1 .left)
+    (c .before .before .before .if2 .left) (sym (small-answer (c .before)) ∙ not-true _ (c .if3 .taken)))
+
+returns-4 : tie.Need-returns-4
+returns-4 c =
+    let t = c .before .before .before .before .before .before in
+    let a = t .args in
+    sym (check-empty (a .nodes) (a .edges) (a .end1 .now) (a .end2 .now) (a .cost .now) (a .mark .now) (t .pre)
+    (sym (small-answer (c .before .before)) ∙ not-false _ (c .before .if3 .left)) (c .before .before .before .before .before .if1 .left)
+    (c .before .before .before .before .if2 .left) (c .if4 .taken))
+
+returns-5 : tie.Need-returns-5
+returns-5 c =
+    let t = c .before .before .before .before .before .before .before in
+    let a = t .args in
+    sym (check-nodes (a .nodes) (a .edges) (a .end1 .now) (a .end2 .now) (a .cost .now) (a .mark .now) (t .pre)
+    (sym (small-answer (c .before .before .before)) ∙ not-false _ (c .before .before .if3 .left))
+    (c .before .before .before .before .before .before .if1 .left) (c .before .before .before .before .before .if2 .left) (c .before .if4 .left)
+    (c .if5 .taken))
+
+returns-6 : tie.Need-returns-6
+returns-6 c =
+    let t = c .before .before .before .before .before .before .before .before in
+    let a = t .args in
+    sym (check-edges (a .nodes) (a .edges) (a .end1 .now) (a .end2 .now) (a .cost .now) (a .mark .now) (t .pre)
+    (sym (small-answer (c .before .before .before .before)) ∙ not-false _ (c .before .before .before .if3 .left))
+    (c .before .before .before .before .before .before .before .if1 .left) (c .before .before .before .before .before .before .if2 .left)
+    (c .before .before .if4 .left) (c .before .if5 .left) (omega (arith, c .if6 .taken)))
+
+returns-7 : tie.Need-returns-7
+returns-7 c =
+    let t = c .before .before .before .before .before .before .before .before .before .before in
+    let a = t .args in
+    sym (check-ends (a .nodes) (a .edges) (a .end1 .now) (a .end2 .now) (a .cost .now) (a .mark .now) (t .pre)
+    (sym (small-answer (c .before .before .before .before .before .before)) ∙ not-false _ (c .before .before .before .before .before .if3 .left))
+    (c .before .before .before .before .before .before .before .before .before .if1 .left)
+    (c .before .before .before .before .before .before .before .before .if2 .left) (c .before .before .before .before .if4 .left)
+    (c .before .before .before .if5 .left) (c .before .before .if6 .left) (sym (c .before .ends-hold .ensures) ∙ not-true _ (c .if7 .taken)))
+
+returns-8 : tie.Need-returns-8
+returns-8 c =
+    let t = c .before .before .before .before .before .before .before .before .before .before .before .before in
+    let a = t .args in
+    sym (check-marks (a .nodes) (a .edges) (a .end1 .now) (a .end2 .now) (a .cost .now) (a .mark .now) (t .pre)
+    (sym (small-answer (c .before .before .before .before .before .before .before .before)) ∙
+    not-false _ (c .before .before .before .before .before .before .before .if3 .left))
+    (c .before .before .before .before .before .before .before .before .before .before .before .if1 .left)
+    (c .before .before .before .before .before .before .before .before .before .before .if2 .left)
+    (c .before .before .before .before .before .before .if4 .left) (c .before .before .before .before .before .if5 .left)
+    (c .before .before .before .before .if6 .left) (sym (c .before .before .before .ends-hold .ensures) ∙ not-false _ (c .before .before .if7 .left))
+    (sym (c .before .marks-hold .ensures) ∙ not-true _ (c .if8 .taken)))
+
+returns-9 : tie.Need-returns-9
+returns-9 c =
+    let t = c .before .before .before .before .before .before .before .before .before .before .before .before in
+    let a = t .args in
+    sym (check-passed (a .nodes) (a .edges) (a .end1 .now) (a .end2 .now) (a .cost .now) (a .mark .now) (t .pre)
+    (sym (small-answer (c .before .before .before .before .before .before .before .before)) ∙
+    not-false _ (c .before .before .before .before .before .before .before .if3 .left))
+    (c .before .before .before .before .before .before .before .before .before .before .before .if1 .left)
+    (c .before .before .before .before .before .before .before .before .before .before .if2 .left)
+    (c .before .before .before .before .before .before .if4 .left) (c .before .before .before .before .before .if5 .left)
+    (c .before .before .before .before .if6 .left) (sym (c .before .before .before .ends-hold .ensures) ∙ not-false _ (c .before .before .if7 .left))
+    (sym (c .before .marks-hold .ensures) ∙ not-false _ (c .if8 .left)))
+
+ends-hold-requires : tie.Need-ends-hold-requires
+ends-hold-requires c κs = search needs
+
+marks-hold-requires : tie.Need-marks-hold-requires
+marks-hold-requires c κs = search needs
+
+pub check-list-spec : {M : Type 1} → statement M
+check-list-spec =
+    tie.close
+    (tie.spec
+    returns
+    returns-2
+    held-requires
+    links-small-requires
+    returns-3
+    returns-4
+    returns-5
+    returns-6
+    ends-hold-requires
+    returns-7
+    marks-hold-requires
+    returns-8
+    returns-9)

@@ -1,0 +1,144 @@
+-- Questions 1 to 5 of the links of four arrays, by the tests of the code. Assumes nothing.
+use Prim.Native.Nat.{ℕ, _<_, _≤_, min}
+use native.Mathlib.Omega.{arith}
+use mathlib.Core.Path.{_≡_, sym, ap, _∙_}
+use mathlib.Core.Bool.{true, false, Bool, _&&_}
+use mathlib.Core.List.{List}
+use lib.ListN.{length, getD, List·getD-eq-default}
+use borrow.Author.Tests.{le-leb, lt-leb}
+use Rattle.loops.specs.Below.{allBelow}
+use Rattle.loops.specs.GatherLaws.{getD-tabulate}
+use Rattle.frame.specs.Job.{JobLink, noLink, link}
+use Rattle.limits.specs.Limits.{maxNumber, maxNodes, maxEdges}
+use Rattle.frame.specs.Services.{smallNumbers, small}
+use Rattle.frame.specs.Questions.{counted, listFormRefusal, question4, question5}
+use Rattle.links.specs.Columns.{linksAt, jobAt, Places, endsApart, endsHold, marksHold, linksSmall}
+use native.Mathlib.Decide.{decLt}
+use mathlib.Core.Logic.{⊎-elim}
+use lib.Dec.{leb}
+use Rattle.loops.specs.TestLaws.{truth, clash, all-at, all-of, all-same}
+use Rattle.links.specs.ColumnLaws.{rows-length}
+
+-- Question 1 of one link, by the tests of the code.
+module _ (a b c m : ℕ) where
+  pub large-first : maxNumber < a → smallNumbers (record { end₁ = a; end₂ = b; cost = c; mark = m }) ≡ false
+  large-first l = rw (lt-leb a maxNumber l)
+
+  pub large-second : a ≤ maxNumber → maxNumber < b → smallNumbers (record { end₁ = a; end₂ = b; cost = c; mark = m }) ≡ false
+  large-second k₁ l = rw (le-leb a maxNumber k₁, lt-leb b maxNumber l)
+
+  pub large-third : a ≤ maxNumber → b ≤ maxNumber → maxNumber < c → smallNumbers (record { end₁ = a; end₂ = b; cost = c; mark = m }) ≡ false
+  large-third k₁ k₂ l = rw (le-leb a maxNumber k₁, le-leb b maxNumber k₂, lt-leb c maxNumber l)
+
+  pub large-mark : a ≤ maxNumber → b ≤ maxNumber → c ≤ maxNumber → maxNumber < m → smallNumbers (record { end₁ = a; end₂ = b; cost = c; mark = m }) ≡ false
+  large-mark k₁ k₂ k₃ l = rw (le-leb a maxNumber k₁, le-leb b maxNumber k₂, le-leb c maxNumber k₃, lt-leb m maxNumber l)
+
+  pub small-holds : a ≤ maxNumber → b ≤ maxNumber → c ≤ maxNumber → m ≤ maxNumber → smallNumbers (record { end₁ = a; end₂ = b; cost = c; mark = m }) ≡ true
+  small-holds k₁ k₂ k₃ k₄ = rw (le-leb a maxNumber k₁, le-leb b maxNumber k₂, le-leb c maxNumber k₃, le-leb m maxNumber k₄)
+
+-- What holds from k on need be tested below k only.
+all-cut : (n k : ℕ) (p : ℕ → Bool) → ((i : ℕ) → k ≤ i → p i ≡ true) → allBelow n p ≡ allBelow (min n k) p
+all-cut n k p h = ⊎-elim (λ y. whole y ∙ sym y) (λ m. part m ∙ sym m) (truth (allBelow (min n k) p))
+  where
+    whole : allBelow (min n k) p ≡ true → allBelow n p ≡ true
+    whole y = all-of n p λ i l. elim (decLt i k) [ yes b ↦ all-at (min n k) p y i (omega arith) | no b ↦ h i (omega arith) ]
+
+    part : allBelow (min n k) p ≡ false → allBelow n p ≡ false
+    part m =
+        ⊎-elim (λ y. clash (all-of (min n k) p (λ i l. all-at n p y i (omega arith))) m) (λ f. f) (truth (allBelow n p))
+
+module _ (nodes edges : ℕ) (as₁ as₂ as₃ as₄ : List ℕ) where
+  row : ℕ → JobLink
+  row e = record { end₁ = getD as₁ e 0; end₂ = getD as₂ e 0; cost = getD as₃ e 0; mark = getD as₄ e 0 }
+
+  -- The links of the job of the arrays are those at their places.
+  rows-link : (e : ℕ) → e < edges → link (jobAt nodes edges as₁ as₂ as₃ as₄) e ≡ row e
+  unfolding row
+  rows-link e l = getD-tabulate row edges e noLink l
+
+  -- A test of every link is a test of every row.
+  rows-all :
+      (p : JobLink → Bool) →
+      allBelow (length (linksAt edges as₁ as₂ as₃ as₄)) (λ e. p (link (jobAt nodes edges as₁ as₂ as₃ as₄) e)) ≡ allBelow edges (λ e. p (row e))
+  rows-all p =
+      ap (λ (n : ℕ). allBelow n (λ e. p (link (jobAt nodes edges as₁ as₂ as₃ as₄) e))) (rows-length edges as₁ as₂ as₃ as₄) ∙
+      all-same edges (λ e. p (link (jobAt nodes edges as₁ as₂ as₃ as₄) e)) (λ e. p (row e)) (λ e l. ap p (rows-link e l))
+
+  pub list-ends : question4 (jobAt nodes edges as₁ as₂ as₃ as₄) ≡ endsHold nodes edges as₁ as₂
+  unfolding question4 row
+  list-ends = rows-all (λ (l : JobLink). endsApart nodes (l .end₁) (l .end₂))
+
+  pub list-marks : question5 (jobAt nodes edges as₁ as₂ as₃ as₄) ≡ marksHold edges as₄
+  unfolding question5 row
+  list-marks = rows-all (λ (l : JobLink). leb (l .mark) 1)
+
+  pub list-counted : counted (jobAt nodes edges as₁ as₂ as₃ as₄) ≡ (leb 1 nodes && leb nodes maxNodes && leb edges maxEdges)
+  unfolding counted
+  list-counted = rw (rows-length edges as₁ as₂ as₃ as₄)
+
+  -- Past the arrays' ends there are zeros, which are small.
+  module _ (p : Places as₁ as₂ as₃ as₄) where
+    past : (e : ℕ) → 256 ≤ e → smallNumbers (row e) ≡ true
+    unfolding row
+    past e l =
+        rw (
+          List·getD-eq-default as₁ 0 (at (p .end₁)),
+          List·getD-eq-default as₂ 0 (at (p .end₂)),
+          List·getD-eq-default as₃ 0 (at (p .cost)),
+          List·getD-eq-default as₄ 0 (at (p .mark)),
+        )
+      where
+        at : {n : ℕ} → n ≡ 256 → n ≤ e
+        at h = omega arith
+
+    held-all : linksSmall edges as₁ as₂ as₃ as₄ ≡ linksSmall (min edges 256) as₁ as₂ as₃ as₄
+    unfolding row
+    held-all = all-cut edges 256 (λ e. smallNumbers (row e)) past
+
+    pub list-small : small (jobAt nodes edges as₁ as₂ as₃ as₄) ≡ (leb nodes maxNumber && leb edges maxNumber && linksSmall (min edges 256) as₁ as₂ as₃ as₄)
+    unfolding small row
+    list-small = rw (rows-length edges as₁ as₂ as₃ as₄) (ap (λ (b : Bool). leb nodes maxNumber && leb edges maxNumber && b) (by-rows ∙ held-all))
+      where
+        by-rows : allBelow edges (λ e. smallNumbers (link (jobAt nodes edges as₁ as₂ as₃ as₄) e)) ≡ linksSmall edges as₁ as₂ as₃ as₄
+        by-rows =
+            all-same edges (λ e. smallNumbers (link (jobAt nodes edges as₁ as₂ as₃ as₄) e)) (λ e. smallNumbers (row e)) (λ e l. ap smallNumbers (rows-link e l))
+
+    -- The first "no", test by test.
+    module _ (q : linksSmall (min edges 256) as₁ as₂ as₃ as₄ ≡ true) (n₁ : nodes ≤ maxNumber) (e₁ : edges ≤ maxNumber) where
+      all-small : small (jobAt nodes edges as₁ as₂ as₃ as₄) ≡ true
+      all-small = list-small ∙ rw (le-leb nodes maxNumber n₁, le-leb edges maxNumber e₁, q)
+
+      pub check-empty : nodes < 1 → listFormRefusal (jobAt nodes edges as₁ as₂ as₃ as₄) ≡ 2
+      check-empty l = rw (all-small, list-counted, lt-leb 1 nodes l)
+
+      pub check-nodes : 1 ≤ nodes → maxNodes < nodes → listFormRefusal (jobAt nodes edges as₁ as₂ as₃ as₄) ≡ 2
+      check-nodes k l = rw (all-small, list-counted, le-leb 1 nodes k, lt-leb nodes maxNodes l)
+
+      pub check-edges : 1 ≤ nodes → nodes ≤ maxNodes → maxEdges < edges → listFormRefusal (jobAt nodes edges as₁ as₂ as₃ as₄) ≡ 2
+      check-edges k₁ k₂ l = rw (all-small, list-counted, le-leb 1 nodes k₁, le-leb nodes maxNodes k₂, lt-leb edges maxEdges l)
+
+      module _ (k₁ : 1 ≤ nodes) (k₂ : nodes ≤ maxNodes) (k₃ : edges ≤ maxEdges) where
+        all-counted : counted (jobAt nodes edges as₁ as₂ as₃ as₄) ≡ true
+        all-counted = list-counted ∙ rw (le-leb 1 nodes k₁, le-leb nodes maxNodes k₂, le-leb edges maxEdges k₃)
+
+        pub check-ends : endsHold nodes edges as₁ as₂ ≡ false → listFormRefusal (jobAt nodes edges as₁ as₂ as₃ as₄) ≡ 4
+        check-ends n = rw (all-small, all-counted, list-ends, n)
+
+        pub check-marks : endsHold nodes edges as₁ as₂ ≡ true → marksHold edges as₄ ≡ false → listFormRefusal (jobAt nodes edges as₁ as₂ as₃ as₄) ≡ 5
+        check-marks y n = rw (all-small, all-counted, list-ends, y, list-marks, n)
+
+        pub check-passed : endsHold nodes edges as₁ as₂ ≡ true → marksHold edges as₄ ≡ true → listFormRefusal (jobAt nodes edges as₁ as₂ as₃ as₄) ≡ 0
+        check-passed y₄ y₅ = rw (all-small, all-counted, list-ends, y₄, list-marks, y₅)
+
+    pub check-large-nodes : maxNumber < nodes → listFormRefusal (jobAt nodes edges as₁ as₂ as₃ as₄) ≡ 1
+    check-large-nodes l = rw (list-small, lt-leb nodes maxNumber l)
+
+    pub check-large-edges : nodes ≤ maxNumber → maxNumber < edges → listFormRefusal (jobAt nodes edges as₁ as₂ as₃ as₄) ≡ 1
+    check-large-edges k l = rw (list-small, le-leb nodes maxNumber k, lt-leb edges maxNumber l)
+
+    pub check-large :
+        nodes ≤ maxNumber →
+        edges ≤ maxNumber →
+        linksSmall (min edges 256) as₁ as₂ as₃ as₄ ≡ false →
+        listFormRefusal (jobAt nodes edges as₁ as₂ as₃ as₄) ≡ 1
+    check-large k₁ k₂ n = rw (list-small, le-leb nodes maxNumber k₁, le-leb edges maxNumber k₂, n)

@@ -1,0 +1,1 @@
+// Theory only: the layout of numbers stands in specs/.

@@ -1,0 +1,138 @@
+-- `pairing::pair_holds` meets its contract: the tests in turn. Assumes nothing.
+use borrow.Author.Needs.{needs}
+use Rattle.pairing.proofs.pair_holds.Statement.{statement}
+use Rattle.pairing.proofs.pair_holds.Tie as tie
+use native.Mathlib.Omega.{arith}
+use mathlib.Core.Path.{sym}
+use borrow.Author.Tests.{not-true, not-false}
+use Rattle.pairing.specs.PairLaws.{tree-past, tree-unmarked, spare-past, spare-marked, spare-apart, pair-dearer}
+
+cast-tree : tie.Need-cast-tree
+cast-tree c = search needs
+
+cast-spare : tie.Need-cast-spare
+cast-spare c = search needs
+
+returns : tie.Need-returns
+returns c =
+    let a = c .before .before .before .args in
+    sym (tree-past (a .edges) (a .trees) (a .ts .now) (a .end1 .now) (a .end2 .now) (a .cost .now) (a .mark .now) (a .mask .now) (a .t .0) (a .s .0)
+    (c .if1 .taken))
+
+mul-if2 : tie.Need-mul-if2
+mul-if2 c = search needs
+
+element-copy-out-if2 : tie.Need-element-copy-out-if2
+element-copy-out-if2 c = search needs
+
+returns-2 : tie.Need-returns-2
+returns-2 c =
+    let e₁ = c .before .before in
+    let a = e₁ .before .before .before .args in
+    sym (tree-unmarked (a .edges) (a .trees) (a .ts .now) (a .end1 .now) (a .end2 .now) (a .cost .now) (a .mark .now) (a .mask .now) (a .t .0) (a .s .0)
+    (e₁ .if1 .left) (c .if2 .taken))
+
+returns-3 : tie.Need-returns-3
+returns-3 c =
+    let e₁ = c .before .before .before in
+    let a = e₁ .before .before .before .args in
+    sym (spare-past (a .edges) (a .trees) (a .ts .now) (a .end1 .now) (a .end2 .now) (a .cost .now) (a .mark .now) (a .mask .now) (a .t .0) (a .s .0)
+    (e₁ .if1 .left) (c .before .if2 .left) (c .if3 .taken))
+
+mul-if4 : tie.Need-mul-if4
+mul-if4 c = search needs
+
+element-copy-out-if4 : tie.Need-element-copy-out-if4
+element-copy-out-if4 c = search needs
+
+returns-4 : tie.Need-returns-4
+returns-4 c =
+    let e₃ = c .before .before in
+    let e₁ = e₃ .before .before .before in
+    let a = e₁ .before .before .before .args in
+    sym (spare-marked (a .edges) (a .trees) (a .ts .now) (a .end1 .now) (a .end2 .now) (a .cost .now) (a .mark .now) (a .mask .now) (a .t .0) (a .s .0)
+    (e₁ .if1 .left) (e₃ .before .if2 .left) (e₃ .if3 .left) (c .if4 .taken))
+
+rank-of-requires : tie.Need-rank-of-requires
+rank-of-requires c κs = search needs
+
+mul-a : tie.Need-mul-a
+mul-a c = search needs
+
+element-copy-out-a : tie.Need-element-copy-out-a
+element-copy-out-a c = search needs
+
+mul-b : tie.Need-mul-b
+mul-b c = search needs
+
+element-copy-out-b : tie.Need-element-copy-out-b
+element-copy-out-b c = search needs
+
+covers-requires : tie.Need-covers-requires
+covers-requires c κs =
+    let e₄ = c .before .before .before in
+    let s = e₄ .before .before .before .before .before .before .before .before in
+    let link = e₄ .before .before .if3 .left in
+    omega (arith, s .pre .judged .first (s .args .s .0) link, s .pre .judged .second (s .args .s .0) link, c .before .before .rank-of .ensures .1)
+
+returns-5 : tie.Need-returns-5
+returns-5 c =
+    let k = c .before .before .before .before in
+    let e₄ = k .before in
+    let e₃ = e₄ .before .before in
+    let e₁ = e₃ .before .before .before in
+    let a = e₁ .before .before .before .args in
+    sym (spare-apart (a .edges) (a .trees) (a .ts .now) (a .end1 .now) (a .end2 .now) (a .cost .now) (a .mark .now) (a .mask .now) (a .t .0) (a .s .0)
+    (e₁ .if1 .left) (e₃ .before .if2 .left) (e₃ .if3 .left) (e₄ .if4 .left)
+    (k .rank-of .result .0) (k .rank-of .ensures .0) (c .before .covers .result) (c .before .covers .ensures) (not-true _ (c .if5 .taken)))
+
+mul-result : tie.Need-mul-result
+mul-result c = search needs
+
+element-copy-out-result : tie.Need-element-copy-out-result
+element-copy-out-result c = search needs
+
+mul-result-2 : tie.Need-mul-result-2
+mul-result-2 c = search needs
+
+element-copy-out-result-2 : tie.Need-element-copy-out-result-2
+element-copy-out-result-2 c = search needs
+
+returns-6 : tie.Need-returns-6
+returns-6 c =
+    let e₅ = c .before .before in
+    let k = e₅ .before .before .before .before in
+    let e₄ = k .before in
+    let e₃ = e₄ .before .before in
+    let e₁ = e₃ .before .before .before in
+    let a = e₁ .before .before .before .args in
+    pair-dearer (a .edges) (a .trees) (a .ts .now) (a .end1 .now) (a .end2 .now) (a .cost .now) (a .mark .now) (a .mask .now) (a .t .0) (a .s .0) (e₁ .if1 .left)
+    (e₃ .before .if2 .left) (e₃ .if3 .left) (e₄ .if4 .left)
+    (k .rank-of .result .0) (k .rank-of .ensures .0) (e₅ .before .covers .result) (e₅ .before .covers .ensures) (not-false _ (e₅ .if5 .left))
+
+pub pair-holds-spec : {M : Type 1} → statement M
+pair-holds-spec =
+    tie.close
+    (tie.spec
+    cast-tree
+    cast-spare
+    returns
+    mul-if2
+    element-copy-out-if2
+    returns-2
+    returns-3
+    mul-if4
+    element-copy-out-if4
+    returns-4
+    rank-of-requires
+    mul-a
+    element-copy-out-a
+    mul-b
+    element-copy-out-b
+    covers-requires
+    returns-5
+    mul-result
+    element-copy-out-result
+    mul-result-2
+    element-copy-out-result-2
+    returns-6)

@@ -1,0 +1,3 @@
+-- The tests of a listed pairing.
+pub mod Pairs
+pub mod PairLaws

@@ -1,0 +1,135 @@
+-- Laws of the tests of pairs, in the shape of the code: the search for a rank, one pair, the order of two. Assumes nothing.
+use Prim.Native.Nat.{ℕ, _+_, _≤_, _<_}
+use native.Mathlib.Decide.{ℕ-discrete}
+use native.Mathlib.Omega.{arith}
+use mathlib.Core.Path.{_≡_, sym, ap, _∙_}
+use mathlib.Core.Bool.{Bool, true, false, not, _&&_}
+use mathlib.Core.List.{List}
+use lib.Dec.{ltb, eqb}
+use lib.ListN.{length, getD, take}
+use lib.Seq.{length-take-le, getD-take}
+use borrow.Author.Tests.{lt-ltb, le-ltb, eq-eqb, ne-eqb, ltb-true}
+use Rattle.loops.specs.FirstLaws.{first-found}
+use Rattle.loops.specs.TestLaws.{and-first, and-second, all-at}
+use Rattle.paths.specs.Arrays.{arrayTree, across}
+use Rattle.frame.specs.Answers.{rankOf, pairFrom}
+use Rattle.pairing.specs.Pairs.{pairHeld, pairsHeld, pairLater, Falling}
+
+-- ---- the rank of a tree edge
+
+-- Edge e stands at none of the first k places.
+abbrev pub Missed : List ℕ → ℕ → ℕ → Type 0
+Missed ts e k = (i : ℕ) → i < k → eqb (getD ts i 0) e ≡ false
+
+pub missed-more : (ts : List ℕ) (e k : ℕ) → Missed ts e k → (getD ts k 0 ≡ e → ⊥) → Missed ts e (k + 1)
+missed-more ts e k h d i l =
+    elim (ℕ-discrete i k) [
+      | yes q ↦ rw q (ne-eqb (getD ts k 0) e d)
+      | no q ↦ h i (omega arith)
+    ]
+
+module _ (ts : List ℕ) (p e : ℕ) (room : p ≤ length ts) where
+  rank-first : (k : ℕ) → k ≤ p → Missed ts e k → (k < p → getD ts k 0 ≡ e) → k ≡ rankOf (take p ts) e
+  rank-first k l miss hit =
+      let size : length (take p ts) ≡ p = length-take-le p ts room in
+      sym (first-found record {
+        within = omega arith;
+        before = λ i b. ap (λ x. eqb x e) (getD-take p ts i 0 (omega arith)) ∙ miss i b;
+        hit = λ b. ap (λ x. eqb x e) (getD-take p ts k 0 (omega arith)) ∙ eq-eqb (getD ts k 0) e (hit (omega arith));
+      })
+
+  pub rank-found : (k : ℕ) → k < p → Missed ts e k → getD ts k 0 ≡ e → k ≡ rankOf (take p ts) e
+  rank-found k l miss hit = rank-first k (omega arith) miss (λ _. hit)
+
+  pub rank-none : (k : ℕ) → p ≤ k → k ≤ p → Missed ts e k → p ≡ rankOf (take p ts) e
+  rank-none k l b miss =
+      let all : k ≡ p = omega arith in
+      rank-first p (omega arith) (rw all at miss) (λ h. absurd (omega arith))
+
+-- ---- one pair
+
+module _ (edges p : ℕ) (ts as₁ as₂ as₃ as₄ mask : List ℕ) (t s : ℕ) where
+  pub tree-past : edges ≤ t → pairHeld edges p ts as₁ as₂ as₃ as₄ mask t s ≡ false
+  unfolding pairHeld
+  tree-past l = rw (le-ltb t edges l)
+
+  pub tree-unmarked : t < edges → (getD as₄ t 0 ≡ 1 → ⊥) → pairHeld edges p ts as₁ as₂ as₃ as₄ mask t s ≡ false
+  unfolding pairHeld
+  tree-unmarked l d = rw (lt-ltb t edges l, ne-eqb (getD as₄ t 0) 1 d)
+
+  module _ (below : t < edges) (marked : getD as₄ t 0 ≡ 1) where
+    pub spare-past : edges ≤ s → pairHeld edges p ts as₁ as₂ as₃ as₄ mask t s ≡ false
+    unfolding pairHeld
+    spare-past l = rw (lt-ltb t edges below, eq-eqb (getD as₄ t 0) 1 marked, le-ltb s edges l)
+
+    pub spare-marked : s < edges → getD as₄ s 0 ≡ 1 → pairHeld edges p ts as₁ as₂ as₃ as₄ mask t s ≡ false
+    unfolding pairHeld
+    spare-marked l e = rw (lt-ltb t edges below, eq-eqb (getD as₄ t 0) 1 marked, lt-ltb s edges l, eq-eqb (getD as₄ s 0) 1 e)
+
+    module _ (within : s < edges) (spare : getD as₄ s 0 ≡ 1 → ⊥) (k : ℕ) (rank : k ≡ rankOf (take p ts) t)
+        (r : Bool) (crosses : r ≡ across mask (getD as₁ s 0) (getD as₂ s 0) k) where
+      covering : across mask (getD as₁ s 0) (getD as₂ s 0) (rankOf (take p ts) t) ≡ r
+      covering = ap (across mask (getD as₁ s 0) (getD as₂ s 0)) (sym rank) ∙ sym crosses
+
+      pub spare-apart : r ≡ false → pairHeld edges p ts as₁ as₂ as₃ as₄ mask t s ≡ false
+      unfolding pairHeld
+      spare-apart e = rw (lt-ltb t edges below, eq-eqb (getD as₄ t 0) 1 marked, lt-ltb s edges within, ne-eqb (getD as₄ s 0) 1 spare, covering, e)
+
+      pub pair-dearer : r ≡ true → ltb (getD as₃ s 0) (getD as₃ t 0) ≡ pairHeld edges p ts as₁ as₂ as₃ as₄ mask t s
+      unfolding pairHeld
+      pair-dearer e = rw (lt-ltb t edges below, eq-eqb (getD as₄ t 0) 1 marked, lt-ltb s edges within, ne-eqb (getD as₄ s 0) 1 spare, covering, e)
+
+  -- What a pair that holds is.
+  module _ (h : pairHeld edges p ts as₁ as₂ as₃ as₄ mask t s ≡ true) where
+    abbrev t₁ : Bool
+    t₁ = ltb t edges
+
+    abbrev t₂ : Bool
+    t₂ = t₁ && arrayTree as₄ t
+
+    abbrev t₃ : Bool
+    t₃ = t₂ && ltb s edges
+
+    abbrev t₄ : Bool
+    t₄ = t₃ && not (arrayTree as₄ s)
+
+    abbrev t₅ : Bool
+    t₅ = t₄ && across mask (getD as₁ s 0) (getD as₂ s 0) (rankOf (take p ts) t)
+
+    third : t₃ ≡ true
+    unfolding pairHeld
+    third = and-first t₃ _ (and-first t₄ _ (and-first t₅ _ h))
+
+    pub held-tree : t < edges
+    held-tree = ltb-true _ _ (and-first t₁ _ (and-first t₂ _ third))
+
+    pub held-spare : s < edges
+    held-spare = ltb-true _ _ (and-second t₂ _ third)
+
+    pub held-falls : getD as₃ s 0 < getD as₃ t 0
+    unfolding pairHeld
+    held-falls = ltb-true _ _ (and-second t₅ _ h)
+
+-- Pairs that hold fall.
+pub held-falling :
+    (edges p : ℕ) (ts as₁ as₂ as₃ as₄ mask : List ℕ) (count : ℕ) (ps : List ℕ) → edges ≤ 256 → count ≤ 64
+    → pairsHeld edges p ts as₁ as₂ as₃ as₄ mask count ps ≡ true → Falling count ps as₃
+held-falling edges p ts as₁ as₂ as₃ as₄ mask count ps l few h =
+    record {
+      few = few;
+      tree = λ i b. omega (arith, held-tree edges p ts as₁ as₂ as₃ as₄ mask (pairFrom ps i .tree) (pairFrom ps i .spare) (all-at count _ h i b));
+      spare = λ i b. omega (arith, held-spare edges p ts as₁ as₂ as₃ as₄ mask (pairFrom ps i .tree) (pairFrom ps i .spare) (all-at count _ h i b));
+      falls = λ i b. omega (arith, held-falls edges p ts as₁ as₂ as₃ as₄ mask (pairFrom ps i .tree) (pairFrom ps i .spare) (all-at count _ h i b));
+    }
+
+-- ---- two pairs
+
+module _ (ps : List ℕ) (i k : ℕ) where
+  pub later-low : pairFrom ps i .tree ≤ pairFrom ps k .tree → pairLater ps i k ≡ false
+  later-low l = rw (le-ltb (pairFrom ps k .tree) (pairFrom ps i .tree) l)
+
+  pub later-same : pairFrom ps k .tree < pairFrom ps i .tree → pairFrom ps k .spare ≡ pairFrom ps i .spare → pairLater ps i k ≡ false
+  later-same l e = rw (lt-ltb (pairFrom ps k .tree) (pairFrom ps i .tree) l, eq-eqb (pairFrom ps k .spare) (pairFrom ps i .spare) e)
+
+  pub later-holds : pairFrom ps k .tree < pairFrom ps i .tree → (pairFrom ps k .spare ≡ pairFrom ps i .spare → ⊥) → pairLater ps i k ≡ true
+  later-holds l d = rw (lt-ltb (pairFrom ps k .tree) (pairFrom ps i .tree) l, ne-eqb (pairFrom ps k .spare) (pairFrom ps i .spare) d)

@@ -1,0 +1,169 @@
+// The tests of the pairs that an answer lists, over a job held in arrays (specs/Pairs.antt).
+ghost use mathlib.Core.Path.{_≡_};
+ghost use Prim.Native.Nat.{_-_, _≤_, _<_};
+ghost use lib.ListN.{length, getD, take};
+ghost use Rattle.loops.specs.Below.{allBelow, sum};
+ghost use Rattle.frame.specs.Answers.{rankOf};
+ghost use Rattle.pairing.specs.Pairs.{pairHeld, pairsHeld, pairRises, fall, Falling, Judging};
+use ids::Edge;
+use ids::Node;
+use ids::TreeRank;
+use limits::TREE_MARK;
+
+// The rank of a tree edge; the number of ranks if it has none.
+fn rank_of(ts: &[u32; 256], trees: usize, t: Edge) -> TreeRank
+    requires { ⌜ trees ≤ 63 ⌝ }
+    requires places { ⌜ trees ≤ length (now ts) ⌝ }
+    ensures { λ r. ⌜ r .0 ≡ rankOf (take trees (now (ts .entry))) (t .0) ⌝ }
+    ensures small { λ r. ⌜ r .0 ≤ 63 ⌝ }
+{
+    let e = t.0;
+    let mut k: usize = 0;
+    while k < trees {
+        if ts[k] == e {
+            return TreeRank(k as u32);
+        }
+        k += 1;
+    }
+    TreeRank(trees as u32)
+}
+
+// One pair: a tree edge, a dearer one than the spare that covers it.
+fn pair_holds(
+    t: Edge,
+    s: Edge,
+    edges: usize,
+    ts: &[u32; 256],
+    trees: usize,
+    end1: &[u32; 256],
+    end2: &[u32; 256],
+    cost: &[u32; 256],
+    mark: &[u32; 256],
+    mask: &[u64; 64],
+) -> bool
+    requires { ⌜ Judging edges trees (now ts) (now end1) (now end2) (now mask) ⌝ }
+    ensures { λ r. ⌜ r ≡ pairHeld edges trees (now (ts .entry)) (now (end1 .entry)) (now (end2 .entry)) (now (cost .entry)) (now (mark .entry))
+        (now (mask .entry)) (t .0) (s .0) ⌝ }
+{
+    let tree = t.0 as usize;
+    let spare = s.0 as usize;
+    if edges <= tree {
+        return false;
+    }
+    if mark[tree] != TREE_MARK {
+        return false;
+    }
+    if edges <= spare {
+        return false;
+    }
+    if mark[spare] == TREE_MARK {
+        return false;
+    }
+    let k = rank_of(ts, trees, t);
+    let a = end1[spare];
+    let b = end2[spare];
+    if !paths::covers(mask, Node(a), Node(b), k) {
+        return false;
+    }
+    cost[spare] < cost[tree]
+}
+
+// Every pair.
+pub fn pairs_hold(
+    count: usize,
+    pairs: &[u32; 128],
+    edges: usize,
+    ts: &[u32; 256],
+    trees: usize,
+    end1: &[u32; 256],
+    end2: &[u32; 256],
+    cost: &[u32; 256],
+    mark: &[u32; 256],
+    mask: &[u64; 64],
+) -> bool
+    requires { ⌜ count ≤ 64 ⌝ }
+    requires job { ⌜ Judging edges trees (now ts) (now end1) (now end2) (now mask) ⌝ }
+    ensures { λ r. ⌜ r ≡ pairsHeld edges trees (now (ts .entry)) (now (end1 .entry)) (now (end2 .entry)) (now (cost .entry)) (now (mark .entry))
+        (now (mask .entry)) count (now (pairs .entry)) ⌝ }
+{
+    let mut i: usize = 0;
+    while i < count {
+        let t = pairs[2 * i];
+        let s = pairs[2 * i + 1];
+        if !pair_holds(
+            Edge(t),
+            Edge(s),
+            edges,
+            ts,
+            trees,
+            end1,
+            end2,
+            cost,
+            mark,
+            mask,
+        ) {
+            return false;
+        }
+        i += 1;
+    }
+    true
+}
+
+// Every pair before pair i has a lower tree edge and another spare.
+fn pair_rises(i: usize, pairs: &[u32; 128]) -> bool
+    requires { ⌜ i < 64 ⌝ }
+    ensures { λ r. ⌜ r ≡ pairRises (now (pairs .entry)) i ⌝ }
+{
+    let t = pairs[2 * i];
+    let s = pairs[2 * i + 1];
+    let mut k: usize = 0;
+    while k < i {
+        if t <= pairs[2 * k] {
+            return false;
+        }
+        if pairs[2 * k + 1] == s {
+            return false;
+        }
+        k += 1;
+    }
+    true
+}
+
+// So for every pair.
+pub fn pairs_rise(count: usize, pairs: &[u32; 128]) -> bool
+    requires { ⌜ count ≤ 64 ⌝ }
+    ensures { λ r. ⌜ r ≡ allBelow count (pairRises (now (pairs .entry))) ⌝ }
+{
+    let mut i: usize = 0;
+    while i < count {
+        if !pair_rises(i, pairs) {
+            return false;
+        }
+        i += 1;
+    }
+    true
+}
+
+// Old tree cost less old spare cost.
+fn pair_fall(t: Edge, s: Edge, cost: &[u32; 256]) -> u32
+    requires { ⌜ (t .0 < 256) × (s .0 < 256) × (getD (now cost) (s .0) 0 ≤ getD (now cost) (t .0) 0) ⌝ }
+    ensures { λ r. ⌜ r ≡ getD (now (cost .entry)) (t .0) 0 - getD (now (cost .entry)) (s .0) 0 ⌝ }
+{
+    cost[t.0 as usize] - cost[s.0 as usize]
+}
+
+// The sum of it over all pairs.
+pub fn pairs_weight(count: usize, pairs: &[u32; 128], cost: &[u32; 256]) -> u64
+    requires { ⌜ Falling count (now pairs) (now cost) ⌝ }
+    ensures { λ r. ⌜ r ≡ sum count (fall (now (pairs .entry)) (now (cost .entry))) ⌝ }
+{
+    let mut total: u64 = 0;
+    let mut i: usize = 0;
+    while i < count {
+        let t = pairs[2 * i];
+        let s = pairs[2 * i + 1];
+        total += pair_fall(Edge(t), Edge(s), cost) as u64;
+        i += 1;
+    }
+    total
+}

@@ -1,0 +1,7 @@
+-- Tree paths over arrays.
+pub mod Arrays
+pub mod GrowLaws
+pub mod WordLaws
+pub mod AdjacencyLaws
+pub mod ExpandLaws
+pub mod RootLaws

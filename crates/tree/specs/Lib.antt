@@ -1,8 +1,0 @@
--- Tree paths and the judge over arrays.
-pub mod Arrays
-pub mod GrowLaws
-pub mod WordLaws
-pub mod AdjacencyLaws
-pub mod ExpandLaws
-pub mod RootLaws
-pub mod JudgeLaws
