@@ -7,29 +7,32 @@ use mathlib.Core.Bool.{Bool, true, false}
 use mathlib.Core.List.{List}
 use lib.Dec.{leb, eqb}
 use lib.ListN.{length, getD, take}
-use lib.Seq.{length-sets, sets, getD-take}
+use lib.Seq.{sets, getD-take}
 use borrow.Author.Tests.{ne-eqb}
 use Rattle.number.specs.Number.{Bytes}
 use Rattle.graph.specs.CountLaws.{count-below}
 use Rattle.graph.specs.Rank.{sorted, members, treeRanks}
 use Rattle.graph.specs.RankLaws.{tree-lists}
-use Rattle.graph.specs.Paths.{isTree}
-use Rattle.frame.specs.Job.{JobLink, Job, link, jobNumbers, graphOf, treeOf, costOf}
+use Rattle.graph.specs.Paths.{rooted, isTree}
+use Rattle.frame.specs.Job.{JobLink, Job, link, graphOf, treeOf, costOf}
+use Rattle.frame.specs.Arrays.{Columns, Arrays}
 use Rattle.frame.specs.Questions.{jobOf, question6, formRefusal}
-use Rattle.frame.specs.Meaning.{Small, EndsHold}
-use Rattle.frame.specs.RoundTrip.{formed, job-of, job-numbers, links-few}
-use Rattle.frame.specs.Accepted.{cost-small}
+use Rattle.frame.specs.RoundTrip.{links-few}
+use Rattle.frame.specs.Lists.{small-job, counted-limits}
+use Rattle.frame.specs.Accepted.{listed-accepted, form-listed, cost-small}
 use Rattle.paths.specs.Arrays.{arrayGraph, RankedEnds, Walked}
 use Rattle.ranks.specs.Keys.{treeList, SmallCosts}
-use Rattle.job.specs.Reading.{LinksLoaded, arrays, filled}
+use Rattle.job.specs.Reading.{filled}
 use Rattle.links.specs.Columns.{firsts, seconds, costs, marks, Places}
 use Rattle.links.specs.ColumnLaws.{column-held, length-zeros}
-use Rattle.accept.specs.Accepting.{Empty, Stored, StoredAs, Held, treeRefusal}
+use Rattle.held.specs.Held.{Stored, Held}
+use Rattle.held.specs.HeldLaws.{graph-stored}
+use Rattle.accept.specs.Accepting.{Empty, treeRefusal}
 
 abbrev placesOf : List ℕ → ℕ → ℕ
 placesOf l e = getD l e 0
 
-pub empty-places : {as₁ as₂ as₃ as₄ ts : List ℕ} → Empty as₁ as₂ as₃ as₄ ts → Places as₁ as₂ as₃ as₄
+pub empty-places : {a : Arrays} → Empty a → Places (a .links)
 empty-places e =
     record {
       end₁ = ap length (e .end₁) ∙ length-zeros 256;
@@ -40,65 +43,55 @@ empty-places e =
 
 -- A frame of good form, read into arrays of zeros, is so stored.
 pub stored :
-    (s z₁ z₂ z₃ z₄ ts₀ as₁ as₂ as₃ as₄ : List ℕ) →
+    (s : List ℕ) (z : Arrays) (c : Columns) (nodes edges : ℕ) →
     Bytes s →
     formRefusal s ≡ 0 →
-    Empty z₁ z₂ z₃ z₄ ts₀ →
-    arrays 0 as₁ as₂ as₃ as₄ ≡ filled (jobOf s .links) 0 0 (arrays 0 z₁ z₂ z₃ z₄) →
-    Stored (jobOf s) as₁ as₂ as₃ as₄
-stored s z₁ z₂ z₃ z₄ ts₀ as₁ as₂ as₃ as₄ b none empty full =
+    Empty z →
+    c ≡ filled (jobOf s .links) 0 (z .links) →
+    nodes ≡ jobOf s .nodes →
+    edges ≡ length (jobOf s .links) →
+    Stored (jobOf s) nodes edges c
+stored s z c nodes edges b none empty full pn pm =
     let few = links-few s b none in
     let ls = jobOf s .links in
-    let (ns, f) = formed s b none in
     record {
+      form = form-listed s b none;
+      nodes-are = pn;
+      edges-are = pm;
       end₁ =
-          ap placesOf (ap (λ (l : LinksLoaded). l .end₁) full ∙ ap (λ (z : List ℕ). sets z 0 (firsts ls)) (empty .end₁)) ∙
+          ap placesOf (ap (λ (c : Columns). c .end₁) full ∙ ap (λ (z : List ℕ). sets z 0 (firsts ls)) (empty .end₁)) ∙
           column-held (λ (l : JobLink). l .end₁) refl 256 ls few;
       end₂ =
-          ap placesOf (ap (λ (l : LinksLoaded). l .end₂) full ∙ ap (λ (z : List ℕ). sets z 0 (seconds ls)) (empty .end₂)) ∙
+          ap placesOf (ap (λ (c : Columns). c .end₂) full ∙ ap (λ (z : List ℕ). sets z 0 (seconds ls)) (empty .end₂)) ∙
           column-held (λ (l : JobLink). l .end₂) refl 256 ls few;
       cost =
-          ap placesOf (ap (λ (l : LinksLoaded). l .cost) full ∙ ap (λ (z : List ℕ). sets z 0 (costs ls)) (empty .cost)) ∙
+          ap placesOf (ap (λ (c : Columns). c .cost) full ∙ ap (λ (z : List ℕ). sets z 0 (costs ls)) (empty .cost)) ∙
           column-held (λ (l : JobLink). l .cost) refl 256 ls few;
       mark =
-          ap placesOf (ap (λ (l : LinksLoaded). l .mark) full ∙ ap (λ (z : List ℕ). sets z 0 (marks ls)) (empty .mark)) ∙
+          ap placesOf (ap (λ (c : Columns). c .mark) full ∙ ap (λ (z : List ℕ). sets z 0 (marks ls)) (empty .mark)) ∙
           column-held (λ (l : JobLink). l .mark) refl 256 ls few;
-      places = ap length (ap (λ (l : LinksLoaded). l .cost) full) ∙ length-sets z₃ 0 (costs ls) ∙ ap length (empty .cost) ∙ length-zeros 256;
-      nodes-few = omega (arith, ap (λ (j : Job). j .nodes) (job-of s ns b (f .divides)), f .counted .node-limit);
-      edges-few = few;
-      small = subst Small (sym (ap jobNumbers (job-of s ns b (f .divides)) ∙ job-numbers ns (f .counted .two) (f .complete))) (f .divides .small);
-      ends-hold = subst EndsHold (sym (job-of s ns b (f .divides))) (f .ends);
     }
 
-module _ {j : Job} {n m : ℕ} {as₁ as₂ as₃ as₄ : List ℕ} (k : StoredAs j n m as₁ as₂ as₃ as₄) where
-  h : Stored j as₁ as₂ as₃ as₄
-  h = k .stored
-
-  pn : n ≡ j .nodes
-  pn = k .nodes-are
-
-  pm : m ≡ length (j .links)
-  pm = k .edges-are
-
-  graph-is : arrayGraph n m as₁ as₂ ≡ graphOf j
-  graph-is i = record { nodes = pn i; edges = pm i; end₁ = h .end₁ i; end₂ = h .end₂ i; live = λ _. true }
+module _ {j : Job} {n m : ℕ} {c : Columns} (k : Stored j n m c) where
+  nodes-few : n ≤ 64
+  nodes-few = omega (arith, k .nodes-are, counted-limits j (k .form .counted) .1)
 
   pub edges-most : m ≤ 256
-  edges-most = omega (arith, pm, h .edges-few)
+  edges-most = omega (arith, k .edges-are, counted-limits j (k .form .counted) .2)
 
-  pub costs-small : SmallCosts m as₃
-  costs-small e l = omega (arith, ap (λ (c : ℕ → ℕ). c e) (h .cost), cost-small j (h .small) e)
+  pub costs-small : SmallCosts m (c .cost)
+  costs-small e l = omega (arith, ap (λ (f : ℕ → ℕ). f e) (k .cost), cost-small j (small-job j (k .form .small)) e)
 
   -- The tree edges by rank.
   byRank : ℕ → (ℕ → ℕ) → (ℕ → ℕ) → List ℕ
-  byRank m c k = sorted (λ x y. leb (c y) (c x)) (members m (λ e. eqb (k e) 1))
+  byRank m cost mark = sorted (λ x y. leb (cost y) (cost x)) (members m (λ e. eqb (mark e) 1))
 
-  ranks-are : treeList m as₃ as₄ ≡ treeRanks (graphOf j) (treeOf j) (costOf j)
+  ranks-are : treeList m (c .cost) (c .mark) ≡ treeRanks (graphOf j) (treeOf j) (costOf j)
   unfolding byRank
-  ranks-are = ap₂ (byRank m) (h .cost) (h .mark) ∙ ap (λ (m : ℕ). byRank m (costOf j) (λ e. link j e .mark)) pm
+  ranks-are = ap₂ (byRank m) (k .cost) (k .mark) ∙ ap (λ (m : ℕ). byRank m (costOf j) (λ e. link j e .mark)) (k .edges-are)
 
   -- The code's count of tree edges, and its ranks.
-  module _ (count : ℕ) (ts : List ℕ) (size : count ≡ length (treeList m as₃ as₄)) (ranked : take count ts ≡ treeList m as₃ as₄) (places : length ts ≡ 256) where
+  module _ (count : ℕ) (ts : List ℕ) (size : count ≡ length (treeList m (c .cost) (c .mark))) (ranked : take count ts ≡ treeList m (c .cost) (c .mark)) (places : length ts ≡ 256) where
     ts-are : take count ts ≡ treeRanks (graphOf j) (treeOf j) (costOf j)
     ts-are = ranked ∙ ranks-are
 
@@ -107,54 +100,56 @@ module _ {j : Job} {n m : ℕ} {as₁ as₂ as₃ as₄ : List ℕ} (k : StoredA
 
     pub count-few : count ≤ 256
     count-few =
-        omega (arith, ts-count, tree-lists (graphOf j) (treeOf j) (costOf j) .size, count-below (length (j .links)) (treeOf j), h .edges-few)
+        omega (arith, ts-count, tree-lists (graphOf j) (treeOf j) (costOf j) .size, count-below (length (j .links)) (treeOf j), edges-most, k .edges-are)
 
     -- Another number of tree edges than it should be.
     question-wrong : (count + 1 ≡ n → ⊥) → question6 j ≡ false
     unfolding question6
-    question-wrong w = rw (← ts-count, ne-eqb (suc count) (j .nodes) (λ q. w (omega (arith, q, pn))))
+    question-wrong w = rw (← ts-count, ne-eqb (suc count) (j .nodes) (λ q. w (omega (arith, q, k .nodes-are))))
 
     pub count-wrong : (count + 1 ≡ n → ⊥) → 6 ≡ treeRefusal j
     count-wrong w = rw (question-wrong w)
 
     module _ (right : count + 1 ≡ n) where
-      rank-edge : (k : ℕ) → k < count → getD ts k 0 < length (j .links)
-      rank-edge k l =
-          let in-list = tree-lists (graphOf j) (treeOf j) (costOf j) .below k (omega (arith, ts-count)) in
-          subst (λ (e : ℕ). e < length (j .links)) (ap (λ (r : List ℕ). getD r k 0) (sym ts-are) ∙ getD-take count ts k 0 l) in-list
+      rank-edge : (i : ℕ) → i < count → getD ts i 0 < length (j .links)
+      rank-edge i l =
+          let in-list = tree-lists (graphOf j) (treeOf j) (costOf j) .below i (omega (arith, ts-count)) in
+          subst (λ (e : ℕ). e < length (j .links)) (ap (λ (r : List ℕ). getD r i 0) (sym ts-are) ∙ getD-take count ts i 0 l) in-list
 
-      pub tree-ranked : RankedEnds n count ts as₁ as₂
+      pub tree-ranked : RankedEnds n count ts (c .end₁) (c .end₂)
       tree-ranked =
           record {
-            small = omega (arith, pn, h .nodes-few);
-            few = omega (arith, right, pn, h .nodes-few);
+            small = nodes-few;
+            few = omega (arith, right, nodes-few);
             within = omega (arith, count-few, places);
-            edge = λ k l. omega (arith, rank-edge k l, h .edges-few);
-            first = λ k l. omega (arith, ap (λ (f : ℕ → ℕ). f (getD ts k 0)) (h .end₁), h .ends-hold .first (getD ts k 0) (rank-edge k l), pn);
-            second = λ k l. omega (arith, ap (λ (f : ℕ → ℕ). f (getD ts k 0)) (h .end₂), h .ends-hold .second (getD ts k 0) (rank-edge k l), pn);
+            edge = λ i l. omega (arith, rank-edge i l, edges-most, k .edges-are);
+            first = λ i l. omega (arith, ap (λ (f : ℕ → ℕ). f (getD ts i 0)) (k .end₁), k .form .ends .first (getD ts i 0) (rank-edge i l), k .nodes-are);
+            second = λ i l. omega (arith, ap (λ (f : ℕ → ℕ). f (getD ts i 0)) (k .end₂), k .form .ends .second (getD ts i 0) (rank-edge i l), k .nodes-are);
           }
 
-      tree-answer : (r : Bool) → ((edges : ℕ) → r ≡ isTree (arrayGraph n edges as₁ as₂) (take count ts)) → r ≡ question6 j
-      unfolding question6
-      tree-answer r said = said m ∙ ap₂ isTree graph-is ts-are
+      -- Whether they join all stations.
+      module _ (r : Bool) (said : (edges : ℕ) → r ≡ isTree (arrayGraph n edges (c .end₁) (c .end₂)) (take count ts)) where
+        tree-answer : r ≡ question6 j
+        unfolding question6
+        tree-answer = said m ∙ ap₂ isTree (graph-stored k) ts-are
 
-      pub tree-wrong : (r : Bool) → ((edges : ℕ) → r ≡ isTree (arrayGraph n edges as₁ as₂) (take count ts)) → r ≡ false → 6 ≡ treeRefusal j
-      tree-wrong r said f = let no : question6 j ≡ false = sym (tree-answer r said) ∙ f in rw no
+        pub tree-wrong : r ≡ false → 6 ≡ treeRefusal j
+        tree-wrong f = let no : question6 j ≡ false = sym tree-answer ∙ f in rw no
 
-      pub tree-right : (r : Bool) → ((edges : ℕ) → r ≡ isTree (arrayGraph n edges as₁ as₂) (take count ts)) → r ≡ true → 0 ≡ treeRefusal j
-      tree-right r said y = let yes : question6 j ≡ true = sym (tree-answer r said) ∙ y in rw yes
+        module _ (y : r ≡ true) where
+          tree-yes : question6 j ≡ true
+          tree-yes = sym tree-answer ∙ y
 
-      pub tree-held : (mask : List ℕ) → Walked n count ts as₁ as₂ n mask → Held j as₁ as₂ as₃ as₄ ts mask
-      tree-held mask w =
-          let last : count ≡ j .nodes - 1 = omega (arith, right, pn) in
-          record {
-            end₁ = h .end₁;
-            end₂ = h .end₂;
-            cost = h .cost;
-            mark = h .mark;
-            places = h .places;
-            ranks = ap (λ (c : ℕ). take c ts) (sym last) ∙ ts-are;
-            ranks-places = places;
-            ranked = subst (λ (c : ℕ). RankedEnds (j .nodes) c ts as₁ as₂) last (subst (λ (n : ℕ). RankedEnds n count ts as₁ as₂) pn tree-ranked);
-            walked = subst (λ (c : ℕ). Walked (j .nodes) c ts as₁ as₂ (j .nodes) mask) last (subst (λ (n : ℕ). Walked n count ts as₁ as₂ n mask) pn w);
-          }
+          pub tree-right : 0 ≡ treeRefusal j
+          tree-right = rw tree-yes
+
+          pub tree-held : (mask : List ℕ) → Walked n count ts (c .end₁) (c .end₂) n mask → Held j n m (record { links = c; ranks = ts; mask = mask })
+          tree-held mask w =
+              let last : n - 1 ≡ count = omega (arith, right) in
+              record {
+                stored = k;
+                accepted = listed-accepted j (k .form) tree-yes;
+                ranks = ap (λ (i : ℕ). take i ts) last ∙ ts-are;
+                places = places;
+                paths = w .paths m ∙ (λ i. rooted (graph-stored k i) (ts-are i) .path);
+              }

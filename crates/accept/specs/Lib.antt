@@ -2,11 +2,9 @@
 pub mod Accepting
 pub mod AcceptLaws
 pub mod ArrayLaws
-pub mod HeldLaws
 pub mod AskedLaws
 pub mod Lists
 pub mod ListLaws
 pub mod ListJobs
 pub mod ListAcceptLaws
 pub mod ListJobLaws
-pub mod ListAskedLaws

@@ -21,7 +21,7 @@ use Rattle.frame.specs.Job.{JobLink, Job, noLink, link, jobFrame}
 use Rattle.limits.specs.Limits.{maxNodes, maxEdges, maxNumber}
 use Rattle.frame.specs.Questions.{ask, refusal, counted, listRefusal}
 use Rattle.frame.specs.Services.{smallNumbers, small}
-use Rattle.links.specs.Columns.{linksAt, jobAt}
+use Rattle.frame.specs.Arrays.{Columns, Arrays, linkAt, linksAt, jobAt}
 use Rattle.links.specs.ColumnLaws.{rows-length, zeros, length-zeros, zero-at}
 use Rattle.accept.specs.Accepting.{Empty}
 use Rattle.accept.specs.Lists.{ListHeld}
@@ -129,9 +129,11 @@ module _ (nodes : ℕ) (ys : List Link) where
 -- ---- arrays
 
 -- Columns of links put into arrays of zeros.
-module _ (count : ℕ) (links : List Link) (z₁ z₂ z₃ z₄ ts as₁ as₂ as₃ as₄ : List ℕ) (size : length links ≡ 256) (empty : Empty z₁ z₂ z₃ z₄ ts)
-    (so₁ : as₁ ≡ columnPut (λ l. l .end1) (min count 256) links z₁) (so₂ : as₂ ≡ columnPut (λ l. l .end2) (min count 256) links z₂)
-    (so₃ : as₃ ≡ columnPut (λ l. l .cost) (min count 256) links z₃) (so₄ : as₄ ≡ columnPut (λ l. l .mark) (min count 256) links z₄) where
+module _ (count : ℕ) (links : List Link) (before : Arrays) (c : Columns) (size : length links ≡ 256) (empty : Empty before)
+    (so₁ : c .end₁ ≡ columnPut (λ l. l .end1) (min count 256) links (before .links .end₁))
+    (so₂ : c .end₂ ≡ columnPut (λ l. l .end2) (min count 256) links (before .links .end₂))
+    (so₃ : c .cost ≡ columnPut (λ l. l .cost) (min count 256) links (before .links .cost))
+    (so₄ : c .mark ≡ columnPut (λ l. l .mark) (min count 256) links (before .links .mark)) where
   zeros-size : {z : List ℕ} → z ≡ zeros 256 → length z ≡ 256
   zeros-size e = ap length e ∙ length-zeros 256
 
@@ -145,7 +147,7 @@ module _ (count : ℕ) (links : List Link) (z₁ z₂ z₃ z₄ ts as₁ as₂ a
       filled-past f (min count 256) links z e (omega (arith, size)) (omega (arith, zeros-size is)) (omega arith) ∙
       ap (λ (r : List ℕ). getD r e 0) is ∙ zero-at 256 e
 
-  pub columns-held : ListHeld count as₁ as₂ as₃ as₄
+  pub columns-held : ListHeld count c
   columns-held =
       record {
         places = record {
@@ -174,11 +176,7 @@ module _ (count : ℕ) (links : List Link) (z₁ z₂ z₃ z₄ ts as₁ as₂ a
         filled-at f (min count 256) links z e (omega (arith, size)) (omega (arith, zeros-size is)) (omega arith) ∙
         ap f (sym (getD-take count links e zeroLink k))
 
-    row : ℕ → JobLink
-    row e = record { end₁ = getD as₁ e 0; end₂ = getD as₂ e 0; cost = getD as₃ e 0; mark = getD as₄ e 0 }
-
-    row-is : (e : ℕ) → e < count → row e ≡ jobLink (getD (take count links) e zeroLink)
-    unfolding row
+    row-is : (e : ℕ) → e < count → linkAt c e ≡ jobLink (getD (take count links) e zeroLink)
     row-is e k i =
         record {
           end₁ = column-is (λ l. l .end1) (empty .end₁) so₁ e k i;
@@ -187,13 +185,12 @@ module _ (count : ℕ) (links : List Link) (z₁ z₂ z₃ z₄ ts as₁ as₂ a
           mark = column-is (λ l. l .mark) (empty .mark) so₄ e k i;
         }
 
-    pub columns-job : (nodes : ℕ) → jobAt nodes count as₁ as₂ as₃ as₄ ≡ listJob nodes (take count links)
-    unfolding row
+    pub columns-job : (nodes : ℕ) → jobAt nodes count c ≡ listJob nodes (take count links)
     columns-job nodes =
         let taken : length (take count links) ≡ count = length-take-le count links (omega (arith, size)) in
         ap (λ (ls : List JobLink). record { nodes = nodes; links = ls })
-        (ext-getD noLink (linksAt count as₁ as₂ as₃ as₄) (map jobLink (take count links))
-        (rows-length count as₁ as₂ as₃ as₄ ∙ sym (length-map (take count links) jobLink ∙ taken))
+        (ext-getD noLink (linksAt count c) (map jobLink (take count links))
+        (rows-length count c ∙ sym (length-map (take count links) jobLink ∙ taken))
         λ e k.
-        let below : e < count = omega (arith, rows-length count as₁ as₂ as₃ as₄) in
-        getD-tabulate row count e noLink below ∙ row-is e below ∙ sym (List·getD-map jobLink (take count links) e zeroLink))
+        let below : e < count = omega (arith, rows-length count c) in
+        getD-tabulate (linkAt c) count e noLink below ∙ row-is e below ∙ sym (List·getD-map jobLink (take count links) e zeroLink))

@@ -6,15 +6,15 @@ use mathlib.Core.Logic.{_≢_}
 use mathlib.Core.Bool.{Bool, true, false, _&&_}
 use mathlib.Core.List.{List, map}
 use lib.Dec.{leb}
-use lib.ListN.{length, take}
+use lib.ListN.{take}
 use Rattle.records.specs.declared.Link.{Link}
 use Rattle.frame.specs.Job.{JobLink, Job, jobFrame}
 use Rattle.limits.specs.Limits.{maxEdges, maxNumber}
-use Rattle.frame.specs.Questions.{jobOf, ask}
+use Rattle.frame.specs.Arrays.{Arrays}
+use Rattle.frame.specs.Questions.{ask}
 use Rattle.frame.specs.Services.{small}
-use Rattle.frame.specs.Meaning.{Accepted}
 use Rattle.job.specs.declared.Header.{Header}
-use Rattle.accept.specs.Accepting.{Held, acceptedHeader}
+use Rattle.accept.specs.Accepting.{Asked}
 use Rattle.job.specs.Reading.{refusedHeader}
 
 -- The job of a list of records.
@@ -40,15 +40,6 @@ pub record Given (nodes count : ℕ) (word : Bool) (links : List Link) (Refused 
   pub said : countRefusal nodes count word ≡ 0 → Said (listJob nodes (take count links))
 
 -- A list whose numbers are small is accepted as its frame is; any other is refused by question 1.
-pub record ListAccepted (j : Job) (h : Header) (as₁ as₂ as₃ as₄ ts mask : List ℕ) : Type 0 where
+pub record ListAccepted (j : Job) (h : Header) (a : Arrays) : Type 0 where
   pub large : small j ≡ false → h ≡ refusedHeader 1
-  pub header : small j ≡ true → h ≡ acceptedHeader (jobFrame j)
-  pub held : small j ≡ true → h .refusal ≡ 0 → Held (jobOf (jobFrame j)) as₁ as₂ as₃ as₄ ts mask
-
--- The arrays hold an accepted job, of so many stations and links.
-pub record SomeHeld (nodes edges : ℕ) (as₁ as₂ as₃ as₄ ts mask : List ℕ) : Type 0 where
-  pub job : Job
-  pub held : Held job as₁ as₂ as₃ as₄ ts mask
-  pub accepted : Accepted job
-  pub nodes-are : nodes ≡ job .nodes
-  pub edges-are : edges ≡ length (job .links)
+  pub asked : small j ≡ true → Asked (jobFrame j) h a

@@ -4,17 +4,17 @@ use native.Mathlib.Decide.{decLt}
 use native.Mathlib.Omega.{arith}
 use mathlib.Core.Path.{_≡_, refl, sym, ap, fun-ext, _∙_}
 use mathlib.Core.Bool.{Bool, true, false}
-use mathlib.Core.List.{List}
-use lib.ListN.{getD, List·getD-eq-default}
+use lib.ListN.{List·getD-eq-default}
 use Rattle.loops.specs.GatherLaws.{getD-tabulate}
 use Rattle.frame.specs.Job.{JobLink, Job, noLink, link}
 use Rattle.frame.specs.Questions.{ask, question4, question5, counted, listFormRefusal, listRefusal}
 use Rattle.frame.specs.Services.{small}
-use Rattle.frame.specs.Lists.{listed, small-job, counted-limits}
-use Rattle.links.specs.Columns.{linksAt, jobAt}
+use Rattle.frame.specs.Lists.{listed}
+use Rattle.frame.specs.Arrays.{Columns, linkAt, linksAt, jobAt}
 use Rattle.links.specs.ColumnLaws.{rows-length}
 use Rattle.accept.specs.Lists.{ListHeld}
-use Rattle.accept.specs.Accepting.{Stored, treeRefusal}
+use Rattle.held.specs.Held.{Stored}
+use Rattle.accept.specs.Accepting.{treeRefusal}
 
 -- Four questions in turn, and then x.
 abbrev chain : Bool → Bool → Bool → Bool → ℕ → ℕ
@@ -40,41 +40,28 @@ list-form-refused j n = chain-refused (small j) (counted j) (question4 j) (quest
 pub list-tree : (j : Job) → listFormRefusal j ≡ 0 → listRefusal j ≡ treeRefusal j
 list-tree j z = chain-passed (small j) (counted j) (question4 j) (question5 j) (treeRefusal j) z
 
-module _ (nodes edges : ℕ) (as₁ as₂ as₃ as₄ : List ℕ) (h : ListHeld edges as₁ as₂ as₃ as₄) where
-  row : ℕ → JobLink
-  row e = record { end₁ = getD as₁ e 0; end₂ = getD as₂ e 0; cost = getD as₃ e 0; mark = getD as₄ e 0 }
-
+module _ (nodes edges : ℕ) (c : Columns) (h : ListHeld edges c) where
   -- At every place the arrays say what the list says.
   said :
       (f : JobLink → ℕ) →
       f noLink ≡ 0 →
-      ((e : ℕ) → edges ≤ e → f (row e) ≡ 0) →
-      _≡_ {A = ℕ → ℕ} (λ e. f (row e)) (λ e. f (link (jobAt nodes edges as₁ as₂ as₃ as₄) e))
-  unfolding row
+      ((e : ℕ) → edges ≤ e → f (linkAt c e) ≡ 0) →
+      _≡_ {A = ℕ → ℕ} (λ e. f (linkAt c e)) (λ e. f (link (jobAt nodes edges c) e))
   said f z past =
       fun-ext λ e.
       elim (decLt e edges) [
-        | yes l ↦ sym (ap f (getD-tabulate row edges e noLink l))
-        | no l ↦ past e (omega arith) ∙ sym (ap f
-            (List·getD-eq-default (linksAt edges as₁ as₂ as₃ as₄) noLink (omega (arith, rows-length edges as₁ as₂ as₃ as₄))) ∙ z)
+        | yes l ↦ sym (ap f (getD-tabulate (linkAt c) edges e noLink l))
+        | no l ↦ past e (omega arith) ∙ sym (ap f (List·getD-eq-default (linksAt edges c) noLink (omega (arith, rows-length edges c))) ∙ z)
       ]
 
-  pub list-stored : listFormRefusal (jobAt nodes edges as₁ as₂ as₃ as₄) ≡ 0 → Stored (jobAt nodes edges as₁ as₂ as₃ as₄) as₁ as₂ as₃ as₄
-  unfolding row
+  pub list-stored : listFormRefusal (jobAt nodes edges c) ≡ 0 → Stored (jobAt nodes edges c) nodes edges c
   list-stored z =
-      let good = listed (jobAt nodes edges as₁ as₂ as₃ as₄) z in
-      let limits = counted-limits (jobAt nodes edges as₁ as₂ as₃ as₄) (good .counted) in
       record {
+        form = listed (jobAt nodes edges c) z;
+        nodes-are = refl;
+        edges-are = sym (rows-length edges c);
         end₁ = said (λ (l : JobLink). l .end₁) refl (h .end₁);
         end₂ = said (λ (l : JobLink). l .end₂) refl (h .end₂);
         cost = said (λ (l : JobLink). l .cost) refl (h .cost);
         mark = said (λ (l : JobLink). l .mark) refl (h .mark);
-        places = h .places .cost;
-        nodes-few = limits .1;
-        edges-few = limits .2;
-        small = small-job (jobAt nodes edges as₁ as₂ as₃ as₄) (good .small);
-        ends-hold = good .ends;
       }
-
-  pub list-few : listFormRefusal (jobAt nodes edges as₁ as₂ as₃ as₄) ≡ 0 → edges ≤ 256
-  list-few z = omega (arith, list-stored z .edges-few, rows-length edges as₁ as₂ as₃ as₄)

@@ -4,11 +4,12 @@ ghost use mathlib.Core.Path.{_≡_};
 ghost use lib.ListN.{length};
 ghost use Rattle.frame.specs.Job.{Job};
 ghost use Rattle.frame.specs.Questions.{jobOf, listRefusal};
-ghost use Rattle.links.specs.Columns.{jobAt};
-ghost use Rattle.accept.specs.Accepting.{Empty, StoredAs, Held, treeRefusal, acceptedHeader};
+ghost use Rattle.frame.specs.Arrays.{columns, arrays, jobAt};
+ghost use Rattle.held.specs.Held.{Stored, Held};
+ghost use Rattle.accept.specs.Accepting.{Empty, SomeHeld, treeRefusal, acceptedHeader};
 ghost use Rattle.job.specs.Reading.{refusedHeader};
 ghost use Rattle.accept.specs.Lists.{ListHeld};
-ghost use Rattle.accept.specs.ListJobs.{countRefusal, Given, ListAccepted, SomeHeld};
+ghost use Rattle.accept.specs.ListJobs.{countRefusal, Given, ListAccepted};
 use job::Header;
 use job::refused;
 use limits::MOST_COUNT;
@@ -27,12 +28,11 @@ fn tree_refusal(
     ts: &mut [u32; 256],
     mask: &mut [u64; 64],
 ) -> u32
-    requires { ⌜ ((j : Job) × StoredAs j nodes edges (now end1) (now end2) (now cost) (now mark)) ⌝ }
+    requires { ⌜ ((j : Job) × Stored j nodes edges (columns (now end1) (now end2) (now cost) (now mark))) ⌝ }
     requires { ⌜ length (now ts) ≡ 256 ⌝ }
-    ensures refusal { λ r. ⌜ ((j : Job) → StoredAs j nodes edges (now (end1 .entry)) (now (end2 .entry)) (now (cost .entry)) (now (mark .entry)) → r
-        ≡ treeRefusal j) ⌝ }
-    ensures held { λ r. ⌜ ((j : Job) → StoredAs j nodes edges (now (end1 .entry)) (now (end2 .entry)) (now (cost .entry)) (now (mark .entry)) → r ≡ 0
-        → Held j (now (end1 .entry)) (now (end2 .entry)) (now (cost .entry)) (now (mark .entry)) (now (ts .exit)) (now (mask .exit))) ⌝ }
+    ensures refusal { λ r. ⌜ ((j : Job) → Stored j nodes edges (columns (now (end1 .entry)) (now (end2 .entry)) (now (cost .entry)) (now (mark .entry))) → r ≡ treeRefusal j) ⌝ }
+    ensures held { λ r. ⌜ ((j : Job) → Stored j nodes edges (columns (now (end1 .entry)) (now (end2 .entry)) (now (cost .entry)) (now (mark .entry))) → r ≡ 0
+        → Held j nodes edges (arrays (now (end1 .entry)) (now (end2 .entry)) (now (cost .entry)) (now (mark .entry)) (now (ts .exit)) (now (mask .exit)))) ⌝ }
 {
     let count = ranks::tree_ranks(edges, cost, mark, ts);
     if count + 1 != nodes as usize {
@@ -54,10 +54,10 @@ pub fn accept(
     ts: &mut [u32; 256],
     mask: &mut [u64; 64],
 ) -> Header
-    requires { ⌜ Empty (now end1) (now end2) (now cost) (now mark) (now ts) ⌝ }
+    requires { ⌜ Empty (arrays (now end1) (now end2) (now cost) (now mark) (now ts) (now mask)) ⌝ }
     ensures header { λ r. ⌜ r ≡ acceptedHeader (now (frame .entry)) ⌝ }
-    ensures job { λ r. ⌜ (r .refusal ≡ 0 → Held (jobOf (now (frame .entry))) (now (end1 .exit)) (now (end2 .exit)) (now (cost .exit)) (now (mark .exit))
-        (now (ts .exit)) (now (mask .exit))) ⌝ }
+    ensures job { λ r. ⌜ (r .refusal ≡ 0 → Held (jobOf (now (frame .entry))) (r .nodes) (r .edges)
+        (arrays (now (end1 .exit)) (now (end2 .exit)) (now (cost .exit)) (now (mark .exit)) (now (ts .exit)) (now (mask .exit)))) ⌝ }
 {
     let header = job::load_job(frame, end1, end2, cost, mark);
     let refusal = header.refusal;
@@ -84,11 +84,11 @@ pub fn accept_list(
     ts: &mut [u32; 256],
     mask: &mut [u64; 64],
 ) -> u32
-    requires { ⌜ ListHeld edges (now end1) (now end2) (now cost) (now mark) ⌝ }
+    requires { ⌜ ListHeld edges (columns (now end1) (now end2) (now cost) (now mark)) ⌝ }
     requires { ⌜ length (now ts) ≡ 256 ⌝ }
-    ensures refusal { λ r. ⌜ r ≡ listRefusal (jobAt nodes edges (now (end1 .entry)) (now (end2 .entry)) (now (cost .entry)) (now (mark .entry))) ⌝ }
-    ensures held { λ r. ⌜ (r ≡ 0 → Held (jobAt nodes edges (now (end1 .entry)) (now (end2 .entry)) (now (cost .entry)) (now (mark .entry)))
-        (now (end1 .entry)) (now (end2 .entry)) (now (cost .entry)) (now (mark .entry)) (now (ts .exit)) (now (mask .exit))) ⌝ }
+    ensures refusal { λ r. ⌜ r ≡ listRefusal (jobAt nodes edges (columns (now (end1 .entry)) (now (end2 .entry)) (now (cost .entry)) (now (mark .entry)))) ⌝ }
+    ensures held { λ r. ⌜ (r ≡ 0 → Held (jobAt nodes edges (columns (now (end1 .entry)) (now (end2 .entry)) (now (cost .entry)) (now (mark .entry)))) nodes edges
+        (arrays (now (end1 .entry)) (now (end2 .entry)) (now (cost .entry)) (now (mark .entry)) (now (ts .exit)) (now (mask .exit)))) ⌝ }
 {
     let refusal = links::check_list(nodes, edges, end1, end2, cost, mark);
     if refusal != 0 {
@@ -130,11 +130,10 @@ pub fn accept_links(
     ts: &mut [u32; 256],
     mask: &mut [u64; 64],
 ) -> Header
-    requires { ⌜ Empty (now end1) (now end2) (now cost) (now mark) (now ts) ⌝ }
+    requires { ⌜ Empty (arrays (now end1) (now end2) (now cost) (now mark) (now ts) (now mask)) ⌝ }
     ensures list { λ r. ⌜ Given nodes count small links (λ n. r ≡ refusedHeader n)
-        (λ j. ListAccepted j r (now (end1 .exit)) (now (end2 .exit)) (now (cost .exit)) (now (mark .exit)) (now (ts .exit)) (now (mask .exit))) ⌝ }
-    ensures job { λ r. ⌜ (r .refusal ≡ 0 → SomeHeld (r .nodes) (r .edges) (now (end1 .exit)) (now (end2 .exit)) (now (cost .exit)) (now (mark .exit))
-        (now (ts .exit)) (now (mask .exit))) ⌝ }
+        (λ j. ListAccepted j r (arrays (now (end1 .exit)) (now (end2 .exit)) (now (cost .exit)) (now (mark .exit)) (now (ts .exit)) (now (mask .exit)))) ⌝ }
+    ensures job { λ r. ⌜ SomeHeld r (arrays (now (end1 .exit)) (now (end2 .exit)) (now (cost .exit)) (now (mark .exit)) (now (ts .exit)) (now (mask .exit))) ⌝ }
 {
     let early = count_refusal(nodes, count, small);
     if early != 0 {

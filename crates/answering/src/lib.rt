@@ -3,7 +3,8 @@ ghost use mathlib.Core.Path.{_≡_};
 ghost use mathlib.Core.Logic.{_≢_};
 ghost use mathlib.Core.List.{List};
 ghost use Prim.Native.Nat.{ℕ};
-ghost use Rattle.accept.specs.Accepting.{Asked, AskedSome};
+ghost use Rattle.frame.specs.Arrays.{arrays};
+ghost use Rattle.accept.specs.Accepting.{Asked, SomeHeld};
 ghost use Rattle.answering.specs.Answering.{Answered, Untouched};
 use accept::accept;
 use codec::Reply;
@@ -22,9 +23,9 @@ pub fn answer_held(
     mask: &[u64; 64],
     area: &mut [u8],
 ) -> Reply
-    requires { ⌜ AskedSome header (now end1) (now end2) (now cost) (now mark) (now ts) (now mask) ⌝ }
-    ensures answered { λ r. ⌜ ((s : List ℕ) → Asked s header (now (end1 .entry)) (now (end2 .entry)) (now (cost .entry)) (now (mark .entry))
-        (now (ts .entry)) (now (mask .entry)) → Answered s (now (area .entry)) r (now (area .exit))) ⌝ }
+    requires { ⌜ SomeHeld header (arrays (now end1) (now end2) (now cost) (now mark) (now ts) (now mask)) ⌝ }
+    ensures answered { λ r. ⌜ ((s : List ℕ) → Asked s header (arrays (now (end1 .entry)) (now (end2 .entry)) (now (cost .entry)) (now (mark .entry)) (now (ts .entry))
+        (now (mask .entry))) → Answered s (now (area .entry)) r (now (area .exit))) ⌝ }
     ensures refused { λ r. ⌜ (header .refusal ≢ 0 → Untouched (header .refusal) (now (area .entry)) r (now (area .exit))) ⌝ }
 {
     let refusal = header.refusal;

@@ -1,6 +1,6 @@
 -- The judge of answer frames over arrays is the model's: each of its tests, a frame that is not read, and the verdict.
 -- Assumes nothing.
-use Prim.Native.Nat.{ℕ, suc, _≤_, _<_}
+use Prim.Native.Nat.{ℕ, suc, _-_, _≤_, _<_}
 use native.Mathlib.Omega.{arith}
 use mathlib.Core.Path.{_≡_, refl, sym, ap, ap₂, subst, _∙_}
 use mathlib.Core.Logic.{inl, inr}
@@ -9,7 +9,6 @@ use mathlib.Core.List.{List, [], _∷_}
 use mathlib.Core.Option.{Option, some, none}
 use lib.Dec.{leb, ltb, eqb}
 use lib.ListN.{length, getD, take}
-use lib.Seq.{length-take-le}
 use borrow.Author.Tests.{ltb-true, eq-eqb, ne-eqb}
 use Rattle.loops.specs.Below.{sum, allBelow}
 use Rattle.loops.specs.Loop.{tabulate}
@@ -26,14 +25,16 @@ use Rattle.optimum.specs.PairLaws.{rising-count}
 use Rattle.optimum.specs.Solve.{gap}
 use Rattle.paths.specs.Arrays.{arrayGraph, arrayTree, arrayCost, paths}
 use Rattle.paths.specs.RootLaws.{across-covers}
-use Rattle.frame.specs.Job.{Job, treeOf, costOf}
+use Rattle.frame.specs.Job.{Job}
+use Rattle.frame.specs.Arrays.{Arrays}
 use Rattle.frame.specs.Answers.{pairFrom, noPair, rankOf, pairHolds, pairsRise, pairsWeight, answerHolds, readAnswer, judgeRead, judgeAnswer}
 use Rattle.answer_read.specs.declared.Contents.{Contents}
 use Rattle.codec.specs.Held.{pairsAt}
 use Rattle.answer_read.specs.Reading.{contents, few}
 use Rattle.answer_read.specs.AnswerLaws.{found-answer, missed-answer}
-use Rattle.pairing.specs.Pairs.{pairHeld, pairsHeld, pairRises, fall, Judging}
-use Rattle.certify.specs.Judging.{JobIn}
+use Rattle.pairing.specs.Pairs.{pairHeld, pairsHeld, pairRises, fall}
+use Rattle.held.specs.Held.{Held}
+use Rattle.held.specs.HeldLaws.{graph-stored, tree-stored, few-nodes, tree-count, paths-held}
 
 -- ---- the tests, of pairs in arrays
 
@@ -59,22 +60,23 @@ module _ (n : ℕ) (ps : List ℕ) where
       rw size
       (sum-same n _ _ λ i l. rw (at i l))
 
-  module _ (nodes edges p : ℕ) (ts as₁ as₂ as₃ as₄ mask : List ℕ) (same : paths mask ≡ rooted (arrayGraph nodes edges as₁ as₂) (take p ts) .path) where
-    pair-model :
-        (t s : ℕ)
-        → pairHeld edges p ts as₁ as₂ as₃ as₄ mask t s
-        ≡ pairHolds (arrayGraph nodes edges as₁ as₂) (arrayTree as₄) (arrayCost as₃) (take p ts) (record { tree = t; spare = s })
-    unfolding pairHeld pairHolds
-    pair-model t s = rw (across-covers nodes edges as₁ as₂ mask (take p ts) same s (rankOf (take p ts) t))
+  module _ (nodes edges p : ℕ) (a : Arrays) where
+    abbrev graph : Graph
+    graph = arrayGraph nodes edges (a .links .end₁) (a .links .end₂)
 
-    pairs-model :
-        pairsHeld edges p ts as₁ as₂ as₃ as₄ mask n ps
-        ≡ allBelow (length pairs) (λ i. pairHolds (arrayGraph nodes edges as₁ as₂) (arrayTree as₄) (arrayCost as₃) (take p ts) (getD pairs i noPair))
-    pairs-model =
-        rw size
-        (all-same n _ _ λ i l.
-        pair-model (pairFrom ps i .tree) (pairFrom ps i .spare)
-        ∙ ap (pairHolds (arrayGraph nodes edges as₁ as₂) (arrayTree as₄) (arrayCost as₃) (take p ts)) (sym (at i l)))
+    abbrev holds : Pair → Bool
+    holds = pairHolds graph (arrayTree (a .links .mark)) (arrayCost (a .links .cost)) (take p (a .ranks))
+
+    module _ (same : paths (a .mask) ≡ rooted (arrayGraph nodes edges (a .links .end₁) (a .links .end₂)) (take p (a .ranks)) .path) where
+      pair-model : (t s : ℕ) → pairHeld edges p a t s ≡ holds (record { tree = t; spare = s })
+      unfolding pairHeld pairHolds
+      pair-model t s =
+          rw (across-covers nodes edges (a .links .end₁) (a .links .end₂) (a .mask) (take p (a .ranks)) same s (rankOf (take p (a .ranks)) t))
+
+      pairs-model : pairsHeld edges p a n ps ≡ allBelow (length pairs) (λ i. holds (getD pairs i noPair))
+      pairs-model =
+          rw size
+          (all-same n _ _ λ i l. pair-model (pairFrom ps i .tree) (pairFrom ps i .spare) ∙ ap holds (sym (at i l)))
 
 -- ---- the new costs
 
@@ -168,31 +170,35 @@ module _ (steps x : ℕ) (cheapest held rise : Bool) (w : ℕ) where
     verdict-weight h₁ h₂ h₃ = rw (eq-eqb steps x (sym e), h₁, h₂, h₃)
 
 -- The job in the arrays, and what was read.
-module _ (j : Job) (edges p : ℕ) (ts as₁ as₂ as₃ as₄ mask : List ℕ) (judging : Judging edges p ts as₁ as₂ mask) (job : JobIn j edges p ts as₁ as₂ as₃ as₄ mask)
+module _ (j : Job) (nodes edges : ℕ) (a : Arrays) (h : Held j nodes edges a)
     (frame : List ℕ) (r : Contents) (costs ps : List ℕ) (found : contents edges r costs ps ≡ few (readAnswer edges frame)) where
-  abbrev graph : Graph
-  graph = arrayGraph (j .nodes) edges as₁ as₂
+  abbrev graphAt : Graph
+  graphAt = arrayGraph nodes edges (a .links .end₁) (a .links .end₂)
 
-  links : length (j .links) ≡ edges
-  links = ap (λ (g : Graph). g .edges) (job .graph)
+  abbrev treeAt : EdgeSet
+  treeAt = arrayTree (a .links .mark)
 
-  ranks-is : treeRanks graph (arrayTree as₄) (arrayCost as₃) ≡ take p ts
-  ranks-is =
-      sym (ap (λ (g : Graph). treeRanks g (treeOf j) (costOf j)) (job .graph)
-      ∙ ap (λ (t : EdgeSet). treeRanks graph t (costOf j)) (job .tree)
-      ∙ ap (λ (c : ℕ → ℕ). treeRanks graph (arrayTree as₄) c) (job .cost))
-      ∙ job .ranks
+  abbrev oldCost : ℕ → ℕ
+  oldCost = arrayCost (a .links .cost)
 
-  lists : Lists edges (arrayTree as₄) (take p ts)
-  lists = subst (λ (l : List ℕ). Lists edges (arrayTree as₄) l) ranks-is (tree-lists graph (arrayTree as₄) (arrayCost as₃))
+  abbrev ranksAt : List ℕ
+  ranksAt = take (nodes - 1) (a .ranks)
 
-  judged-some : (a : Answer) → readAnswer edges frame ≡ some a → judgeAnswer j frame ≡ answerHolds graph (arrayTree as₄) (arrayCost as₃) (take p ts) a
+  ranks-is : treeRanks graphAt treeAt oldCost ≡ ranksAt
+  ranks-is = (λ i. treeRanks (graph-stored (h .stored) i) (tree-stored (h .stored) i) (h .stored .cost i)) ∙ sym (h .ranks)
+
+  lists : Lists edges treeAt ranksAt
+  lists = subst (λ (l : List ℕ). Lists edges treeAt l) ranks-is (tree-lists graphAt treeAt oldCost)
+
+  judged-some : (b : Answer) → readAnswer edges frame ≡ some b → judgeAnswer j frame ≡ answerHolds graphAt treeAt oldCost ranksAt b
   unfolding judgeRead
-  judged-some a e = rw (links, e, job .ranks, job .graph, job .tree, job .cost)
+  judged-some b e =
+      rw (sym (h .stored .edges-are), e)
+      (λ i. answerHolds (sym (graph-stored (h .stored)) i) (sym (tree-stored (h .stored)) i) (sym (h .stored .cost) i) (sym (h .ranks) i) b)
 
   judged-none : readAnswer edges frame ≡ none → judgeAnswer j frame ≡ false
   unfolding judgeRead
-  judged-none e = rw (links, e)
+  judged-none e = rw (sym (h .stored .edges-are), e)
 
   -- A frame that was not read.
   pub verdict-unread : r .ok ≡ false → judgeAnswer j frame ≡ false
@@ -200,17 +206,18 @@ module _ (j : Job) (edges p : ℕ) (ts as₁ as₂ as₃ as₄ mask : List ℕ) 
     where
       of : (o : Option Answer) → readAnswer edges frame ≡ o → judgeAnswer j frame ≡ false
       of none e = judged-none e
-      of (some a) e =
-          judged-some a e
-          ∙ elim (truth (answerHolds graph (arrayTree as₄) (arrayCost as₃) (take p ts) a)) [
-            | inr h ↦ h
-            | inl h ↦
+      of (some b) e =
+          judged-some b e
+          ∙ elim (truth (answerHolds graphAt treeAt oldCost ranksAt b)) [
+            | inr m ↦ m
+            | inl y ↦
                 absurd (omega (
                   arith,
-                  missed-answer edges r costs ps (readAnswer edges frame) found unread a e,
-                  pairs-few graph (arrayTree as₄) (arrayCost as₃) (take p ts) a lists h,
-                  judging .few,
-                  length-take-le p ts (judging .judged .within),
+                  missed-answer edges r costs ps (readAnswer edges frame) found unread b e,
+                  pairs-few graphAt treeAt oldCost ranksAt b lists y,
+                  few-nodes h,
+                  ap length (h .ranks),
+                  tree-count h,
                 ))
           ]
 
@@ -218,19 +225,19 @@ module _ (j : Job) (edges p : ℕ) (ts as₁ as₂ as₃ as₄ mask : List ℕ) 
   module _ (read : r .ok ≡ true) where
     pub verdict-read :
         judgeAnswer j frame
-        ≡ fiveTests (r .steps) (sum edges (λ e. gap (getD costs e 0) (getD as₃ e 0)))
-        (judge graph (arrayTree as₄) (arrayCost costs) (take p ts))
-        (pairsHeld edges p ts as₁ as₂ as₃ as₄ mask (r .count) ps)
+        ≡ fiveTests (r .steps) (sum edges (λ e. gap (getD costs e 0) (getD (a .links .cost) e 0)))
+        (judge (arrayGraph nodes edges (a .links .end₁) (a .links .end₂)) (arrayTree (a .links .mark)) (arrayCost costs) (take (nodes - 1) (a .ranks)))
+        (pairsHeld edges (nodes - 1) a (r .count) ps)
         (allBelow (r .count) (pairRises ps))
-        (sum (r .count) (fall ps as₃))
+        (sum (r .count) (fall ps (a .links .cost)))
     unfolding answerHolds fiveTests
     verdict-read =
         judged-some _ (found-answer edges r costs ps (readAnswer edges frame) found read)
         ∙ rw (
-          steps-model edges costs (arrayCost as₃),
-          judge-alike graph (arrayTree as₄) (arrayCost costs) (λ e. getD (tabulate edges (λ e. getD costs e 0)) e 0) (take p ts) (lists .below)
+          steps-model edges costs oldCost,
+          judge-alike graphAt treeAt (arrayCost costs) (λ e. getD (tabulate edges (λ e. getD costs e 0)) e 0) ranksAt (lists .below)
               (λ e l. sym (getD-tabulate (λ e. getD costs e 0) edges e 0 l)),
-          pairs-model (r .count) ps (j .nodes) edges p ts as₁ as₂ as₃ as₄ mask (job .paths),
+          pairs-model (r .count) ps nodes edges (nodes - 1) a (paths-held h),
           rise-model (r .count) ps,
-          weight-model (r .count) ps as₃,
+          weight-model (r .count) ps (a .links .cost),
         )

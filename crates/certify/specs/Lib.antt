@@ -1,3 +1,3 @@
--- The model over arrays and the laws of the judge of answer frames.
-pub mod Judging
+-- The judges over arrays that hold a job: laws.
+pub mod JudgedLaws
 pub mod JudgeLaws

@@ -9,15 +9,12 @@ use lib.ListN.{length, getD}
 use Rattle.loops.specs.Below.{allBelow}
 use Rattle.loops.specs.Loop.{first}
 use Rattle.bits.specs.Bit.{bit}
+use Rattle.graph.specs.Rank.{costAt}
 use Rattle.paths.specs.Arrays.{arrayTree, paths, across}
-
--- The cost of the tree edge of rank k.
-abbrev pub rankCost : List ℕ → List ℕ → ℕ → ℕ
-rankCost ranks as₃ k = getD as₃ (getD ranks k 0) 0
 
 -- Spare s does not cost less than the tree edge of rank k.
 abbrev pub affords : List ℕ → List ℕ → ℕ → ℕ → Bool
-affords ranks as₃ s k = leb (rankCost ranks as₃ k) (getD as₃ s 0)
+affords ranks as₃ s k = leb (costAt as₃ ranks k) (getD as₃ s 0)
 
 -- It does not cost less than any tree edge that it covers.
 abbrev pub spareHolds : List ℕ → List ℕ → List ℕ → List ℕ → List ℕ → ℕ → Bool
@@ -30,7 +27,7 @@ linkHolds ranks as₁ as₂ as₃ as₄ mask s = arrayTree as₄ s || spareHolds
 
 -- The first `count` ranks of which each costs no more than any lower one.
 abbrev pub notDearer : ℕ → List ℕ → List ℕ → ℕ → Bool
-notDearer count ranks as₃ k = ltb k count && allBelow k (λ j. leb (rankCost ranks as₃ k) (rankCost ranks as₃ j))
+notDearer count ranks as₃ k = ltb k count && allBelow k (λ j. leb (costAt as₃ ranks k) (costAt as₃ ranks j))
 
 -- The ranks of a word that may be its dearest, where those in `falling` cost no more than any lower one.
 abbrev pub mayLead : ℕ → ℕ → ℕ → Bool
@@ -43,7 +40,7 @@ pub record Priced (count : ℕ) (ranks : List ℕ) : Type 0 where
 
 -- Of the first `count` ranks those in `falling` cost no more than any lower one.
 abbrev pub FallAlong : ℕ → ℕ → List ℕ → List ℕ → Type 0
-FallAlong count falling ranks as₃ = (j k : ℕ) → j < k → k < count → bit falling k ≡ true → rankCost ranks as₃ k ≤ rankCost ranks as₃ j
+FallAlong count falling ranks as₃ = (j k : ℕ) → j < k → k < count → bit falling k ≡ true → costAt as₃ ranks k ≤ costAt as₃ ranks j
 
 -- A link of the arrays between two nodes, whose covered ranks name edges, and covered ranks that cost no more than any lower one.
 pub record Spare (s falling : ℕ) (ranks as₁ as₂ as₃ mask : List ℕ) : Type 0 where
@@ -53,12 +50,12 @@ pub record Spare (s falling : ℕ) (ranks as₁ as₂ as₃ mask : List ℕ) : T
   pub edge : (k : ℕ) → across mask (getD as₁ s 0) (getD as₂ s 0) k ≡ true → getD ranks k 0 < 256
   pub falls :
       (j k : ℕ) → j < k → across mask (getD as₁ s 0) (getD as₂ s 0) k ≡ true → bit falling k ≡ true
-      → rankCost ranks as₃ k ≤ rankCost ranks as₃ j
+      → costAt as₃ ranks k ≤ costAt as₃ ranks j
 
 -- Links of the arrays between nodes, `count` ranks that name edges, and no other rank in the masks.
 pub record Judged (edges count : ℕ) (ranks as₁ as₂ mask : List ℕ) : Type 0 where
   pub links : edges ≤ 256
-  pub few : count ≤ 64
+  pub few : count ≤ 63
   pub within : count ≤ length ranks
   pub edge : (k : ℕ) → k < count → getD ranks k 0 < 256
   pub first : (e : ℕ) → e < edges → getD as₁ e 0 < 64

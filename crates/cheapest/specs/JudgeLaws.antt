@@ -19,9 +19,9 @@ use Rattle.bits.specs.Bit.{bit}
 use Rattle.bits.specs.BitLaws.{bit-zero}
 use Rattle.bits.specs.ChangeLaws.{or-test}
 use Rattle.graph.specs.Paths.{rooted, judge}
-use Rattle.paths.specs.Arrays.{arrayGraph, arrayTree, arrayCost, paths, across, RankedEnds}
+use Rattle.paths.specs.Arrays.{arrayGraph, arrayTree, arrayCost, paths, across}
 use Rattle.paths.specs.WordLaws.{lowest-below, lowest-set, taken-out}
-use Rattle.paths.specs.RootLaws.{path-below, across-covers}
+use Rattle.paths.specs.RootLaws.{across-covers}
 use Rattle.cheapest.specs.Judge.{spareHolds, linkHolds, Spare, FallAlong, Judged}
 
 -- ---- the ranks of a word
@@ -95,25 +95,6 @@ judged-spare edges count falling ranks as₁ as₂ as₃ mask h f s l =
       | no b ↦ clash c (across-past edges count ranks as₁ as₂ mask h (getD as₁ s 0) (getD as₂ s 0) k (omega arith))
     ]
 
--- What the search gives is what the judge requires.
-pub walked-judged :
-    (nodes edges count : ℕ) (ranks as₁ as₂ mask : List ℕ) → RankedEnds nodes count ranks as₁ as₂ → edges ≤ 256
-    → ((e : ℕ) → e < edges → getD as₁ e 0 < nodes) → ((e : ℕ) → e < edges → getD as₂ e 0 < nodes)
-    → paths mask ≡ rooted (arrayGraph nodes edges as₁ as₂) (take count ranks) .path
-    → Judged edges count ranks as₁ as₂ mask
-walked-judged nodes edges count ranks as₁ as₂ mask h l e₁ e₂ same =
-    record {
-      links = l;
-      few = h .few;
-      within = h .within;
-      edge = h .edge;
-      first = λ e b. omega (arith, h .small, e₁ e b);
-      second = λ e b. omega (arith, h .small, e₂ e b);
-      below = λ v k b.
-          ap (λ f. f v k) same
-          ∙ path-below (arrayGraph nodes edges as₁ as₂) (take count ranks) v k (omega (arith, length-take-le count ranks (h .within)));
-    }
-
 marked : (t x y : Bool) → x ≡ y → (t || x) ≡ (not (true && not t) || y)
 marked true x y e = refl
 marked false x y e = e
@@ -126,6 +107,6 @@ pub judge-links :
 unfolding judge
 judge-links nodes edges count ranks as₁ as₂ as₃ as₄ mask h same =
     all-same edges _ _ (λ s l. marked (arrayTree as₄ s) _ _
-    (sym (all-longer count 64 _ (h .few) (λ k b. rw (across-past edges count ranks as₁ as₂ mask h (getD as₁ s 0) (getD as₂ s 0) k b)))
+    (sym (all-longer count 64 _ (omega (arith, h .few)) (λ k b. rw (across-past edges count ranks as₁ as₂ mask h (getD as₁ s 0) (getD as₂ s 0) k b)))
     ∙ rw (length-take-le count ranks (h .within)) (all-same count _ _ (λ k b.
     rw (across-covers nodes edges as₁ as₂ mask (take count ranks) same s k, getD-take count ranks k 0 b)))))

@@ -17,16 +17,17 @@ use Rattle.loops.specs.TestLaws.{truth, clash, and-first, and-second, and-both,
 use Rattle.bits.specs.Bit.{bit}
 use Rattle.bits.specs.BitLaws.{bit-zero}
 use Rattle.bits.specs.ChangeLaws.{or-test}
+use Rattle.graph.specs.Rank.{costAt}
 use Rattle.paths.specs.AdjacencyLaws.{passed}
 use Rattle.paths.specs.WordLaws.{lowest-set}
-use Rattle.cheapest.specs.Judge.{rankCost, notDearer, mayLead, FallAlong}
+use Rattle.cheapest.specs.Judge.{notDearer, mayLead, FallAlong}
 
 -- ---- the ranks that cost no more than any lower one
 
 -- The loop has passed k ranks: which of them it has put into the word, and that `least` is the lowest cost among them.
 pub record Passed (k : ℕ) (ranks as₃ : List ℕ) (falling least : ℕ) : Type 0 where
   pub own : (j : ℕ) → bit falling j ≡ notDearer k ranks as₃ j
-  pub lowest : (x : ℕ) → x < 2 ^ 32 → leb x least ≡ allBelow k (λ i. leb x (rankCost ranks as₃ i))
+  pub lowest : (x : ℕ) → x < 2 ^ 32 → leb x least ≡ allBelow k (λ i. leb x (costAt as₃ ranks i))
 
 -- A loop passes one more number.
 all-next : (k : ℕ) (p : ℕ → Bool) → allBelow (k + 1) p ≡ (allBelow k p && p k)
@@ -52,11 +53,11 @@ module _ (ranks as₃ : List ℕ) where
       }
 
   -- One more rank, whose cost is `price`.
-  module _ (k falling least price : ℕ) (h : Passed k ranks as₃ falling least) (is : price ≡ rankCost ranks as₃ k) (fits : price < 2 ^ 32) where
+  module _ (k falling least price : ℕ) (h : Passed k ranks as₃ falling least) (is : price ≡ costAt as₃ ranks k) (fits : price < 2 ^ 32) where
     -- It costs no more than any lower one if it costs at most the least so far.
     told : (j : ℕ) → j ≡ k → leb price least ≡ notDearer (k + 1) ranks as₃ j
     told j e =
-        rw (e, lt-ltb k (k + 1) (omega arith)) (h .lowest price fits ∙ ap (λ x. allBelow k (λ i. leb x (rankCost ranks as₃ i))) is)
+        rw (e, lt-ltb k (k + 1) (omega arith)) (h .lowest price fits ∙ ap (λ x. allBelow k (λ i. leb x (costAt as₃ ranks i))) is)
 
     before : (j : ℕ) → j ≡ k → bit falling j ≡ false
     before j e = h .own j ∙ rw (le-ltb j k (omega arith)) refl
@@ -67,9 +68,9 @@ module _ (ranks as₃ : List ℕ) where
 
     least-next :
         (x least′ : ℕ) → x < 2 ^ 32 → leb x least′ ≡ (leb x least && leb x price)
-        → leb x least′ ≡ allBelow (k + 1) (λ i. leb x (rankCost ranks as₃ i))
+        → leb x least′ ≡ allBelow (k + 1) (λ i. leb x (costAt as₃ ranks i))
     least-next x least′ l e =
-        e ∙ rw (h .lowest x l, is) refl ∙ sym (all-next k (λ i. leb x (rankCost ranks as₃ i)))
+        e ∙ rw (h .lowest x l, is) refl ∙ sym (all-next k (λ i. leb x (costAt as₃ ranks i)))
 
     pub passed-lower :
         (falling′ : ℕ) → ((j : ℕ) → bit falling′ j ≡ (bit falling j || eqb k j)) → price ≤ least → Passed (k + 1) ranks as₃ falling′ price
@@ -94,7 +95,7 @@ module _ (ranks as₃ : List ℕ) where
       (count falling : ℕ) → ((k : ℕ) → bit falling k ≡ notDearer count ranks as₃ k)
       → FallAlong count falling ranks as₃
   falls-word count falling h j k l m b =
-      leb-true _ _ (all-at k (λ i. leb (rankCost ranks as₃ k) (rankCost ranks as₃ i)) (and-second (ltb k count) _ (sym (h k) ∙ b)) j l)
+      leb-true _ _ (all-at k (λ i. leb (costAt as₃ ranks k) (costAt as₃ ranks i)) (and-second (ltb k count) _ (sym (h k) ∙ b)) j l)
 
 -- ---- the ranks of a word that may be its dearest
 
@@ -112,10 +113,10 @@ lead-some word falling low r some fits e h k =
 
 -- If those pass, every rank of the word does.
 module _ (ranks as₃ : List ℕ) (word falling left limit : ℕ)
-    (falls : (j k : ℕ) → j < k → bit word k ≡ true → bit falling k ≡ true → rankCost ranks as₃ k ≤ rankCost ranks as₃ j)
+    (falls : (j k : ℕ) → j < k → bit word k ≡ true → bit falling k ≡ true → costAt as₃ ranks k ≤ costAt as₃ ranks j)
     (part : (k : ℕ) → bit left k ≡ mayLead word falling k) where
   ok : ℕ → Bool
-  ok k = leb (rankCost ranks as₃ k) limit
+  ok k = leb (costAt as₃ ranks k) limit
 
   lead-passes : allBelow 64 (λ k. not (bit left k) || ok k) ≡ true → (k : ℕ) → k < 64 → bit word k ≡ true → ok k ≡ true
   unfolding ok
@@ -124,7 +125,7 @@ module _ (ranks as₃ : List ℕ) (word falling left limit : ℕ)
         | yes c ↦
             elim (truth (bit falling k)) [
               | inl t ↦
-                  let most : rankCost ranks as₃ low ≤ limit = leb-true _ limit (first-passes low (omega arith) refl (lowest-is .hit (omega arith))) in
+                  let most : costAt as₃ ranks low ≤ limit = leb-true _ limit (first-passes low (omega arith) refl (lowest-is .hit (omega arith))) in
                   le-leb _ limit (omega (arith, falls low k c b t, most))
               | inr n ↦ passes k l (rw (b, n) refl)
             ]
@@ -141,15 +142,15 @@ module _ (ranks as₃ : List ℕ) (word falling left limit : ℕ)
       lowest-is : First 64 (bit word) (first 64 (bit word))
       lowest-is = first-is 64 (bit word)
 
-      passes : (j : ℕ) → j < 64 → mayLead word falling j ≡ true → leb (rankCost ranks as₃ j) limit ≡ true
+      passes : (j : ℕ) → j < 64 → mayLead word falling j ≡ true → leb (costAt as₃ ranks j) limit ≡ true
       passes j m q = or-means (bit left j) _ .0 (all-at 64 _ h j m) (part j ∙ q)
 
-      first-passes : (j : ℕ) → j < 64 → first 64 (bit word) ≡ j → bit word j ≡ true → leb (rankCost ranks as₃ j) limit ≡ true
+      first-passes : (j : ℕ) → j < 64 → first 64 (bit word) ≡ j → bit word j ≡ true → leb (costAt as₃ ranks j) limit ≡ true
       first-passes j m e q = passes j m (and-both _ _ q (or-test (not (bit falling j)) _ ∙ rw (eq-eqb (first 64 (bit word)) j e) refl))
 
   pub lead-tells :
       (p : ℕ → Bool) → ((k : ℕ) → bit word k ≡ p k)
-      → allBelow 64 (λ k. not (bit left k) || leb (rankCost ranks as₃ k) limit) ≡ allBelow 64 (λ k. not (p k) || leb (rankCost ranks as₃ k) limit)
+      → allBelow 64 (λ k. not (bit left k) || leb (costAt as₃ ranks k) limit) ≡ allBelow 64 (λ k. not (p k) || leb (costAt as₃ ranks k) limit)
   unfolding ok
   lead-tells p same =
       same-test _ _

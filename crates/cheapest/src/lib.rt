@@ -3,9 +3,10 @@ ghost use mathlib.Core.Path.{_≡_};
 ghost use Prim.Native.Nat.{ℕ, _<_};
 ghost use lib.ListN.{getD, take};
 ghost use Rattle.bits.specs.Bit.{bit};
+ghost use Rattle.graph.specs.Rank.{costAt};
 ghost use Rattle.graph.specs.Paths.{rooted, judge as judged};
 ghost use Rattle.paths.specs.Arrays.{arrayGraph, arrayTree, arrayCost, paths};
-ghost use Rattle.cheapest.specs.Judge.{rankCost, spareHolds, notDearer, mayLead, Priced, Spare, FallAlong, Judged};
+ghost use Rattle.cheapest.specs.Judge.{spareHolds, notDearer, mayLead, Priced, Spare, FallAlong, Judged};
 use ids::Edge;
 use ids::Node;
 use ids::TreeRank;
@@ -15,7 +16,7 @@ use paths::crossing;
 // The cost of the tree edge of rank k.
 fn cost_at(k: TreeRank, ranks: &[u32; 256], cost: &[u32; 256]) -> u32
     requires { ⌜ (k .0 < 64) × (getD (now ranks) (k .0) 0 < 256) ⌝ }
-    ensures { λ r. ⌜ r ≡ rankCost (now (ranks .entry)) (now (cost .entry)) (k .0) ⌝ }
+    ensures { λ r. ⌜ r ≡ costAt (now (cost .entry)) (now (ranks .entry)) (k .0) ⌝ }
 {
     let number = ranks[k.0 as usize];
     let t = Edge(number);

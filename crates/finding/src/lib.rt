@@ -5,7 +5,8 @@ ghost use mathlib.Core.List.{List};
 ghost use Prim.Native.Nat.{ℕ};
 ghost use Rattle.frame.specs.Services.{nowhere};
 ghost use Rattle.codec.specs.Numbers.{placeOf};
-ghost use Rattle.accept.specs.Accepting.{Asked, AskedSome};
+ghost use Rattle.frame.specs.Arrays.{arrays};
+ghost use Rattle.accept.specs.Accepting.{Asked, SomeHeld};
 ghost use Rattle.finding.specs.Parts.{LinkFound, CostFound, LinkLocated, CostLocated};
 use accept::accept;
 use codec::Part;
@@ -59,9 +60,9 @@ pub fn locate_cost_held(
     offered: &[u8],
     edge: Edge,
 ) -> Part
-    requires { ⌜ AskedSome header (now end1) (now end2) (now cost) (now mark) (now ts) (now mask) ⌝ }
-    ensures located { λ r. ⌜ ((s : List ℕ) → Asked s header (now (end1 .entry)) (now (end2 .entry)) (now (cost .entry)) (now (mark .entry)) (now (ts .entry))
-        (now (mask .entry)) → CostLocated s (now (offered .entry)) (edge .0) (placeOf r)) ⌝ }
+    requires { ⌜ SomeHeld header (arrays (now end1) (now end2) (now cost) (now mark) (now ts) (now mask)) ⌝ }
+    ensures located { λ r. ⌜ ((s : List ℕ) → Asked s header (arrays (now (end1 .entry)) (now (end2 .entry)) (now (cost .entry)) (now (mark .entry)) (now (ts .entry))
+        (now (mask .entry))) → CostLocated s (now (offered .entry)) (edge .0) (placeOf r)) ⌝ }
     ensures refused { λ r. ⌜ (header .refusal ≢ 0 → placeOf r ≡ nowhere) ⌝ }
 {
     let e = edge.0;

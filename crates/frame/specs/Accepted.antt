@@ -10,10 +10,11 @@ use lib.Dec.{leb}
 use lib.ListN.{length, getD}
 use borrow.Author.Tests.{le-leb}
 use Rattle.loops.specs.TestLaws.{and-both, all-of}
-use Rattle.number.specs.Number.{Bytes}
+use Rattle.number.specs.Number.{Bytes, encode}
+use Rattle.number.specs.Laws.{bytes-nil, bytes-append, encode-bytes}
 use Rattle.graph.specs.Graph.{Sound}
-use Rattle.frame.specs.Job.{JobLink, Job, noLink, link, fields, jobNumbers, jobFrame, graphOf, costOf}
-use Rattle.limits.specs.Limits.{maxNodes, maxEdges, maxNumber}
+use Rattle.frame.specs.Job.{JobLink, Job, noLink, link, fields, jobNumbers, bytesOf, jobFrame, graphOf, costOf}
+use Rattle.limits.specs.Limits.{maxNodes, maxEdges, maxNumber, numberBytes}
 use Rattle.frame.specs.Questions.{jobOf, question6, ask, formRefusal, refusal, counted, listRefusal}
 use Rattle.frame.specs.Services.{smallNumbers, small}
 use Rattle.frame.specs.Meaning.{Small, EndsHold, TreeHolds, Formed, FirstNo, Accepted, jobFrom}
@@ -22,40 +23,7 @@ use Rattle.frame.specs.Form.{ends-sound, question4-means, question5-mean
 use Rattle.frame.specs.RoundTrip.{job-numbers, formed, job-of, write-read}
 use Rattle.frame.specs.Lists.{Listed, ask-passed, list-passed, small-job, counted-limits, list-as-frame, list-read}
 
--- ---- frames
-
-passed : {s : List ℕ} {r : ℕ} → FirstNo s r → r ≡ 0 → (ns : List ℕ) × Formed s ns × TreeHolds (jobFrom ns)
-passed (no1 q) e = absurd (omega arith)
-passed (no2 ns d q) e = absurd (omega arith)
-passed (no3 ns d h₂ q) e = absurd (omega arith)
-passed (no4 ns d h₂ h₃ q) e = absurd (omega arith)
-passed (no5 ns d h₂ h₃ h₄ q) e = absurd (omega arith)
-passed (no6 ns f q) e = absurd (omega arith)
-passed (none ns f t) e = (ns, f, t)
-
--- What passes questions 1 to 5 is an accepted job if its marked links are a spanning tree.
-formed-accepted : {s ns : List ℕ} → Formed s ns → TreeHolds (jobFrom ns) → Accepted (jobFrom ns)
-formed-accepted {ns = ns} f t =
-    let same : jobNumbers (jobFrom ns) ≡ ns = job-numbers ns (f .counted .two) (f .complete) in
-    record {
-      some-node = f .counted .some-node;
-      node-limit = f .counted .node-limit;
-      edge-limit = rw (ap (λ ms. getD ms 1 0) same) (f .counted .edge-limit);
-      small = subst Small (sym same) (f .divides .small);
-      sound = ends-sound (jobFrom ns) (f .ends);
-      marks = f .marks;
-      tree = t;
-    }
-
-pub accepted : (s : List ℕ) → Bytes s → refusal s ≡ 0 → Accepted (jobOf s)
-accepted s h e =
-    let (ns, f, t) = passed (first-no s h) e in
-    rw (job-of s ns h (f .divides)) (formed-accepted f t)
-
-pub accepted-form : (s : List ℕ) → refusal s ≡ 0 → formRefusal s ≡ 0
-accepted-form s e = form-refusal s ∙ ap beforeTree e
-
--- ---- lists of links
+-- ---- jobs that pass questions 1 to 5
 
 small-edge : (l : JobLink) (rest : List ℕ) → Small (fields l ++ rest) → smallNumbers l ≡ true
 small-edge l rest h =
@@ -74,16 +42,9 @@ job-small j h =
     (and-both (leb (j .nodes) maxNumber) _ (le-leb (j .nodes) maxNumber (h 0)) (le-leb (length (j .links)) maxNumber (h 1)))
     (all-of (length (j .links)) (λ e. smallNumbers (link j e)) (small-edges (j .links) (λ i. h (suc (suc i)))))
 
-job-counted : (j : Job) → Accepted j → counted j ≡ true
-unfolding counted
-job-counted j a =
-    rw (le-leb 1 (j .nodes) (a .some-node), le-leb (j .nodes) maxNodes (a .node-limit), le-leb (length (j .links)) maxEdges (a .edge-limit))
-
-sound-ends : (j : Job) → Sound (graphOf j) → EndsHold j
-sound-ends j s = record { first = s .first; second = s .second; differ = s .differ }
-
-listed-accepted : (j : Job) → Listed j → question6 j ≡ true → Accepted j
-listed-accepted j q y =
+-- A job that passes questions 1 to 5 is an accepted one if its marked links are a spanning tree.
+tree-accepted : (j : Job) → Listed j → TreeHolds j → Accepted j
+tree-accepted j q t =
     let (some, nodes, edges) = counted-limits j (q .counted) in
     record {
       some-node = some;
@@ -92,8 +53,63 @@ listed-accepted j q y =
       small = small-job j (q .small);
       sound = ends-sound j (q .ends);
       marks = q .marks;
-      tree = question6-means j some (q .ends) .0 y;
+      tree = t;
     }
+
+pub listed-accepted : (j : Job) → Listed j → question6 j ≡ true → Accepted j
+listed-accepted j q y = tree-accepted j q (question6-means j (counted-limits j (q .counted) .0) (q .ends) .0 y)
+
+-- ---- frames
+
+passed : {s : List ℕ} {r : ℕ} → FirstNo s r → r ≡ 0 → (ns : List ℕ) × Formed s ns × TreeHolds (jobFrom ns)
+passed (no1 q) e = absurd (omega arith)
+passed (no2 ns d q) e = absurd (omega arith)
+passed (no3 ns d h₂ q) e = absurd (omega arith)
+passed (no4 ns d h₂ h₃ q) e = absurd (omega arith)
+passed (no5 ns d h₂ h₃ h₄ q) e = absurd (omega arith)
+passed (no6 ns f q) e = absurd (omega arith)
+passed (none ns f t) e = (ns, f, t)
+
+formed-listed : {s ns : List ℕ} → Formed s ns → Listed (jobFrom ns)
+unfolding counted
+formed-listed {ns = ns} f =
+    let same : jobNumbers (jobFrom ns) ≡ ns = job-numbers ns (f .counted .two) (f .complete) in
+    let edges : length (jobFrom ns .links) ≤ maxEdges = rw (ap (λ ms. getD ms 1 0) same) (f .counted .edge-limit) in
+    record {
+      small = job-small (jobFrom ns) (subst Small (sym same) (f .divides .small));
+      counted =
+          rw (
+            le-leb 1 (jobFrom ns .nodes) (f .counted .some-node),
+            le-leb (jobFrom ns .nodes) maxNodes (f .counted .node-limit),
+            le-leb (length (jobFrom ns .links)) maxEdges edges,
+          );
+      ends = f .ends;
+      marks = f .marks;
+    }
+
+-- A frame that passes questions 1 to 5 is that of such a job.
+pub form-listed : (s : List ℕ) → Bytes s → formRefusal s ≡ 0 → Listed (jobOf s)
+form-listed s h e =
+    let (ns, f) = formed s h e in
+    rw (job-of s ns h (f .divides)) (formed-listed f)
+
+pub accepted : (s : List ℕ) → Bytes s → refusal s ≡ 0 → Accepted (jobOf s)
+accepted s h e =
+    let (ns, f, t) = passed (first-no s h) e in
+    rw (job-of s ns h (f .divides)) (tree-accepted (jobFrom ns) (formed-listed f) t)
+
+pub accepted-form : (s : List ℕ) → refusal s ≡ 0 → formRefusal s ≡ 0
+accepted-form s e = form-refusal s ∙ ap beforeTree e
+
+-- ---- lists of links
+
+job-counted : (j : Job) → Accepted j → counted j ≡ true
+unfolding counted
+job-counted j a =
+    rw (le-leb 1 (j .nodes) (a .some-node), le-leb (j .nodes) maxNodes (a .node-limit), le-leb (length (j .links)) maxEdges (a .edge-limit))
+
+sound-ends : (j : Job) → Sound (graphOf j) → EndsHold j
+sound-ends j s = record { first = s .first; second = s .second; differ = s .differ }
 
 -- A list of links passes questions 1 to 6 exactly if it is an accepted job.
 pub list-accepted : (j : Job) → (listRefusal j ≡ 0) ↔ Accepted j
@@ -114,6 +130,12 @@ list-accepted j = (to, from)
           question5-means j .1 (a .marks),
           question6-means j (a .some-node) ends .1 (a .tree),
         )
+
+-- A frame that is written of numbers holds bytes.
+pub numbers-bytes : (ns : List ℕ) → Bytes (bytesOf ns)
+unfolding flatMap
+numbers-bytes [] = bytes-nil
+numbers-bytes (n ∷ ns) = bytes-append (encode numberBytes n) (bytesOf ns) (encode-bytes numberBytes n) (numbers-bytes ns)
 
 -- What is written of an accepted job is accepted and reads as that job.
 pub read-write6 : (j : Job) → Accepted j → (refusal (jobFrame j) ≡ 0) × (jobOf (jobFrame j) ≡ j)

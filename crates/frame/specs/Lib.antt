@@ -1,5 +1,6 @@
 -- Job and answer frames: the definitions, the executable model, and the theorems about it.
 pub mod Job
+pub mod Arrays
 pub mod Meaning
 pub mod AnswerMeaning
 pub mod Services

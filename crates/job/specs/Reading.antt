@@ -13,41 +13,35 @@ use Rattle.codec.specs.declared.Taken.{Taken}
 use Rattle.job.specs.declared.Counts.{Counts}
 use Rattle.job.specs.declared.Header.{Header}
 use Rattle.codec.specs.Numbers.{takenAt}
+use Rattle.frame.specs.Arrays.{Columns, columns}
 use Rattle.links.specs.Columns.{firsts, seconds, costs, marks}
 
--- The four arrays of links, and the position behind the last link read.
+-- The links in arrays, and the position behind the last link read.
 pub record LinksLoaded : Type 0 where
   pub at : ℕ
-  pub end₁ : List ℕ
-  pub end₂ : List ℕ
-  pub cost : List ℕ
-  pub mark : List ℕ
+  pub links : Columns
 
--- Link e read into its place.
+abbrev pub loaded : ℕ → Columns → LinksLoaded
+loaded at c = record { at = at; links = c }
+
+-- A link's four numbers put into place e of the arrays; a list of links put there, the first at place e.
+abbrev pub linkPut : ℕ → ℕ → ℕ → ℕ → ℕ → Columns → Columns
+linkPut e a b k m c = columns (set (c .end₁) e a) (set (c .end₂) e b) (set (c .cost) e k) (set (c .mark) e m)
+
+abbrev pub filled : List JobLink → ℕ → Columns → Columns
+filled ls e c = columns (sets (c .end₁) e (firsts ls)) (sets (c .end₂) e (seconds ls)) (sets (c .cost) e (costs ls)) (sets (c .mark) e (marks ls))
+
+-- Link e read into its place; the links of a frame's part behind the two counts.
 unfoldable pub loadLink : List ℕ → ℕ → LinksLoaded → LinksLoaded
 loadLink s e l =
     let a : Taken = takenAt s (l .at) in
     let b : Taken = takenAt s (a .next) in
     let c : Taken = takenAt s (b .next) in
     let m : Taken = takenAt s (c .next) in
-    record {
-      at = m .next;
-      end₁ = set (l .end₁) e (a .value);
-      end₂ = set (l .end₂) e (b .value);
-      cost = set (l .cost) e (c .value);
-      mark = set (l .mark) e (m .value);
-    }
-
--- Four arrays and a position; and the links of a frame's part behind the two counts read into them.
-abbrev pub arrays : ℕ → List ℕ → List ℕ → List ℕ → List ℕ → LinksLoaded
-arrays at as₁ as₂ as₃ as₄ = record { at = at; end₁ = as₁; end₂ = as₂; cost = as₃; mark = as₄ }
+    loaded (m .next) (linkPut e (a .value) (b .value) (c .value) (m .value) (l .links))
 
 abbrev pub loadLinks : List ℕ → ℕ → LinksLoaded → LinksLoaded
 loadLinks s n l = scan (loadLink s) n 0 l
-
-abbrev pub filled : List JobLink → ℕ → ℕ → LinksLoaded → LinksLoaded
-filled ls e at l =
-    arrays at (sets (l .end₁) e (firsts ls)) (sets (l .end₂) e (seconds ls)) (sets (l .cost) e (costs ls)) (sets (l .mark) e (marks ls))
 
 -- Questions 1 to 3: the refusal, or the two counts and the position behind them.
 abbrev pub refusedCounts : ℕ → Counts

@@ -4,7 +4,8 @@ ghost use Prim.Native.Nat.{_+_, _*_, _≤_, _<_};
 ghost use lib.ListN.{length};
 ghost use Rattle.frame.specs.Questions.{numbers, jobOf};
 ghost use Rattle.codec.specs.Numbers.{Divided, placeOf};
-ghost use Rattle.job.specs.Reading.{refusedHeader, arrays, loadLinks, refusedCounts, countsOf, headerOf, filled};
+ghost use Rattle.job.specs.Reading.{refusedHeader, loaded, loadLinks, refusedCounts, countsOf, headerOf, filled};
+ghost use Rattle.frame.specs.Arrays.{columns};
 ghost use Rattle.links.specs.Columns.{Places};
 ghost use Rattle.frame.specs.Replies.{linkPlace};
 use codec::Part;
@@ -45,8 +46,8 @@ pub fn read_links(
 ) -> usize
     requires places { ⌜ edges ≤ 256 ⌝ }
     requires numbers { ⌜ Divided (now part) 0 (4 * edges) ⌝ }
-    ensures { λ r. ⌜ arrays r (now (end1 .exit)) (now (end2 .exit)) (now (cost .exit)) (now (mark .exit))
-        ≡ loadLinks (now (part .entry)) edges (arrays 0 (now (end1 .entry)) (now (end2 .entry)) (now (cost .entry)) (now (mark .entry))) ⌝ }
+    ensures { λ r. ⌜ loaded r (columns (now (end1 .exit)) (now (end2 .exit)) (now (cost .exit)) (now (mark .exit)))
+        ≡ loadLinks (now (part .entry)) edges (loaded 0 (columns (now (end1 .entry)) (now (end2 .entry)) (now (cost .entry)) (now (mark .entry)))) ⌝ }
 {
     let mut at: usize = 0;
     let mut e: usize = 0;
@@ -128,10 +129,10 @@ pub fn load_job(
     cost: &mut [u32; 256],
     mark: &mut [u32; 256],
 ) -> Header
-    requires { ⌜ Places (now end1) (now end2) (now cost) (now mark) ⌝ }
+    requires { ⌜ Places (columns (now end1) (now end2) (now cost) (now mark)) ⌝ }
     ensures header { λ r. ⌜ r ≡ headerOf (now (frame .entry)) ⌝ }
-    ensures links { λ r. ⌜ (r .refusal ≡ 0 → arrays 0 (now (end1 .exit)) (now (end2 .exit)) (now (cost .exit)) (now (mark .exit))
-        ≡ filled (jobOf (now (frame .entry)) .links) 0 0 (arrays 0 (now (end1 .entry)) (now (end2 .entry)) (now (cost .entry)) (now (mark .entry)))) ⌝ }
+    ensures links { λ r. ⌜ (r .refusal ≡ 0 → columns (now (end1 .exit)) (now (end2 .exit)) (now (cost .exit)) (now (mark .exit))
+        ≡ filled (jobOf (now (frame .entry)) .links) 0 (columns (now (end1 .entry)) (now (end2 .entry)) (now (cost .entry)) (now (mark .entry)))) ⌝ }
 {
     let counts = read_counts(frame);
     let refusal = counts.refusal;

@@ -6,59 +6,41 @@ use mathlib.Core.Path.{_≡_, refl, ap, ap₂, _∙_}
 use mathlib.Core.List.{List}
 use lib.ListN.{length, getD, take, drop}
 use lib.Seq.{sets, sets-eq, take-at, ext-getD}
-use Rattle.loops.specs.Loop.{tabulate}
-use Rattle.loops.specs.GatherLaws.{length-tabulate, getD-tabulate}
+use Rattle.loops.specs.GatherLaws.{getD-tabulate}
 use Rattle.number.specs.Number.{Bytes}
 use Rattle.frame.specs.Job.{JobLink, noLink, jobFrame}
 use Rattle.frame.specs.Questions.{jobOf, formRefusal, listFormRefusal}
 use Rattle.frame.specs.RoundTrip.{links-few, write-read}
 use Rattle.frame.specs.Lists.{read-write}
-use Rattle.links.specs.Columns.{linksAt, firsts, seconds, costs, marks, Places, jobAt}
-use Rattle.job.specs.Reading.{header, headerOf}
-use Rattle.links.specs.ColumnLaws.{column}
+use Rattle.frame.specs.Arrays.{Columns, linkAt, linksAt, jobAt}
+use Rattle.links.specs.Columns.{Places}
+use Rattle.links.specs.ColumnLaws.{column, rows-length}
+use Rattle.job.specs.Reading.{filled, header, headerOf}
 
 -- Links put into arrays are the arrays' links.
-module _ (ls : List JobLink) (as₁ as₂ as₃ as₄ : List ℕ) (h₁ : length ls ≤ length as₁) (h₂ : length ls ≤ length as₂) (h₃ : length ls ≤ length as₃)
-    (h₄ : length ls ≤ length as₄) where
-  row : ℕ → JobLink
-  row e =
+module _ (ls : List JobLink) (c : Columns) (p : Places c) (few : length ls ≤ 256) where
+  put-is : (e : ℕ) → e < length ls → linkAt (filled ls 0 c) e ≡ getD ls e noLink
+  put-is e l i =
       record {
-        end₁ = getD (sets as₁ 0 (firsts ls)) e 0;
-        end₂ = getD (sets as₂ 0 (seconds ls)) e 0;
-        cost = getD (sets as₃ 0 (costs ls)) e 0;
-        mark = getD (sets as₄ 0 (marks ls)) e 0;
+        end₁ = column (λ (l : JobLink). l .end₁) refl ls (c .end₁) e (omega (arith, p .end₁)) l i;
+        end₂ = column (λ (l : JobLink). l .end₂) refl ls (c .end₂) e (omega (arith, p .end₂)) l i;
+        cost = column (λ (l : JobLink). l .cost) refl ls (c .cost) e (omega (arith, p .cost)) l i;
+        mark = column (λ (l : JobLink). l .mark) refl ls (c .mark) e (omega (arith, p .mark)) l i;
       }
 
-  row-is : (e : ℕ) → e < length ls → row e ≡ getD ls e noLink
-  unfolding row
-  row-is e l i =
-      record {
-        end₁ = column (λ (l : JobLink). l .end₁) refl ls as₁ e h₁ l i;
-        end₂ = column (λ (l : JobLink). l .end₂) refl ls as₂ e h₂ l i;
-        cost = column (λ (l : JobLink). l .cost) refl ls as₃ e h₃ l i;
-        mark = column (λ (l : JobLink). l .mark) refl ls as₄ e h₄ l i;
-      }
-
-  pub rows-filled : linksAt (length ls) (sets as₁ 0 (firsts ls)) (sets as₂ 0 (seconds ls)) (sets as₃ 0 (costs ls)) (sets as₄ 0 (marks ls)) ≡ ls
-  unfolding row
+  pub rows-filled : linksAt (length ls) (filled ls 0 c) ≡ ls
   rows-filled =
-      ext-getD noLink (tabulate (length ls) row) ls (length-tabulate row (length ls))
+      ext-getD noLink (linksAt (length ls) (filled ls 0 c)) ls (rows-length (length ls) (filled ls 0 c))
       λ i l.
-      let m : i < length ls = omega (arith, length-tabulate row (length ls)) in
-      getD-tabulate row (length ls) i noLink m ∙ row-is i m
+      let m : i < length ls = omega (arith, rows-length (length ls) (filled ls 0 c)) in
+      getD-tabulate (linkAt (filled ls 0 c)) (length ls) i noLink m ∙ put-is i m
 
 -- A frame that passes questions 1 to 5, read into arrays of 256 places and written again, is the same bytes.
 pub frame-again :
-    (s as₁ as₂ as₃ as₄ : List ℕ) →
-    Bytes s →
-    formRefusal s ≡ 0 →
-    Places as₁ as₂ as₃ as₄ →
-    let ls = jobOf s .links in
-    jobFrame (jobAt (jobOf s .nodes) (length ls) (sets as₁ 0 (firsts ls)) (sets as₂ 0 (seconds ls)) (sets as₃ 0 (costs ls)) (sets as₄ 0 (marks ls))) ≡ s
-frame-again s as₁ as₂ as₃ as₄ b z p =
-    let few = links-few s b z in
-    ap (λ (ls : List JobLink). jobFrame (record { nodes = jobOf s .nodes; links = ls }))
-    (rows-filled (jobOf s .links) as₁ as₂ as₃ as₄ (omega (arith, p .end₁)) (omega (arith, p .end₂)) (omega (arith, p .cost)) (omega (arith, p .mark))) ∙
+    (s : List ℕ) (c : Columns) → Bytes s → formRefusal s ≡ 0 → Places c →
+    jobFrame (jobAt (jobOf s .nodes) (length (jobOf s .links)) (filled (jobOf s .links) 0 c)) ≡ s
+frame-again s c b z p =
+    ap (λ (ls : List JobLink). jobFrame (record { nodes = jobOf s .nodes; links = ls })) (rows-filled (jobOf s .links) c p (links-few s b z)) ∙
     write-read s b z
 
 front : (vs area : List ℕ) → length vs ≤ length area → take (length vs) (sets area 0 vs) ≡ vs
@@ -66,12 +48,12 @@ front vs area room = rw (sets-eq vs area 0 (omega arith)) (take-at vs (drop (0 +
 
 -- Links in arrays that pass questions 1 to 5 are read back from the bytes that were written, wherever they were put.
 pub links-again :
-    (nodes edges : ℕ) (as₁ as₂ as₃ as₄ area : List ℕ) →
-    let j = jobAt nodes edges as₁ as₂ as₃ as₄ in
+    (nodes edges : ℕ) (c : Columns) (area : List ℕ) →
+    let j = jobAt nodes edges c in
     listFormRefusal j ≡ 0 →
     length (jobFrame j) ≤ length area →
     headerOf (take (length (jobFrame j)) (sets area 0 (jobFrame j))) ≡ header 0 j
-links-again nodes edges as₁ as₂ as₃ as₄ area z room =
-    let j = jobAt nodes edges as₁ as₂ as₃ as₄ in
+links-again nodes edges c area z room =
+    let j = jobAt nodes edges c in
     let bytes : take (length (jobFrame j)) (sets area 0 (jobFrame j)) ≡ jobFrame j = front (jobFrame j) area room in
     ap headerOf bytes ∙ ap₂ header (read-write j z .0) (read-write j z .1)

@@ -6,11 +6,11 @@ use mathlib.Core.Path.{_≡_, sym, ap, _∙_}
 use mathlib.Core.List.{List, [], _∷_, _++_, flatMap, append-assoc}
 use lib.ListN.{length, getD, set, length-set}
 use Rattle.loops.specs.Loop.{gather}
-use Rattle.frame.specs.Job.{JobLink, fields, jobNumbers}
+use Rattle.frame.specs.Job.{fields, jobNumbers}
 use Rattle.frame.specs.RoundTrip.{flatMap-append}
 use Rattle.codec.specs.Numbers.{numbersAt}
 use Rattle.codec.specs.ListLaws.{numbers-stored}
-use Rattle.links.specs.Columns.{linksAt, jobAt}
+use Rattle.frame.specs.Arrays.{Columns, linkAt, linksAt, jobAt}
 use Rattle.links.specs.ColumnLaws.{rows-length}
 
 -- Four numbers stored behind the first n.
@@ -43,10 +43,10 @@ four-stored xs n a b c m l =
     )
     (simp append-assoc)
 
-module _ (nodes edges : ℕ) (as₁ as₂ as₃ as₄ : List ℕ) where
+module _ (nodes edges : ℕ) (c : Columns) where
   -- The list begins with the two counts and the first e links.
   abbrev pub Begins : ℕ → List ℕ → Type 0
-  Begins e xs = numbersAt (4 * e + 2) xs ≡ nodes ∷ edges ∷ flatMap fields (linksAt e as₁ as₂ as₃ as₄)
+  Begins e xs = numbersAt (4 * e + 2) xs ≡ nodes ∷ edges ∷ flatMap fields (linksAt e c)
 
   module _ (xs : List ℕ) (h : length xs ≡ 1026) where
     pub counts-listed : Begins 0 (set (set xs 0 nodes) 1 edges)
@@ -57,18 +57,15 @@ module _ (nodes edges : ℕ) (as₁ as₂ as₃ as₄ : List ℕ) where
 
     pub link-listed :
         (e : ℕ) → e < 256 → Begins e xs →
-        Begins (e + 1) (fourStored xs (4 * e + 2) (getD as₁ e 0) (getD as₂ e 0) (getD as₃ e 0) (getD as₄ e 0))
+        Begins (e + 1) (fourStored xs (4 * e + 2) (getD (c .end₁) e 0) (getD (c .end₂) e 0) (getD (c .cost) e 0) (getD (c .mark) e 0))
     unfolding gather flatMap
     link-listed e l k =
         let four : 4 * (e + 1) + 2 ≡ 4 * e + 2 + 4 = omega arith in
-        rw (four, four-stored xs (4 * e + 2) (getD as₁ e 0) (getD as₂ e 0) (getD as₃ e 0) (getD as₄ e 0) (omega (arith, h)), k, add-one e)
-        (ap (λ (ns : List ℕ). nodes ∷ edges ∷ ns) (sym (flatMap-append fields (linksAt e as₁ as₂ as₃ as₄) (row ∷ []))))
-      where
-        row : JobLink
-        row = record { end₁ = getD as₁ e 0; end₂ = getD as₂ e 0; cost = getD as₃ e 0; mark = getD as₄ e 0 }
+        rw (four, four-stored xs (4 * e + 2) (getD (c .end₁) e 0) (getD (c .end₂) e 0) (getD (c .cost) e 0) (getD (c .mark) e 0) (omega (arith, h)), k, add-one e)
+        (ap (λ (ns : List ℕ). nodes ∷ edges ∷ ns) (sym (flatMap-append fields (linksAt e c) (linkAt c e ∷ []))))
 
   -- All links are listed.
-  pub job-listed : (xs : List ℕ) → Begins edges xs → numbersAt (4 * edges + 2) xs ≡ jobNumbers (jobAt nodes edges as₁ as₂ as₃ as₄)
+  pub job-listed : (xs : List ℕ) → Begins edges xs → numbersAt (4 * edges + 2) xs ≡ jobNumbers (jobAt nodes edges c)
   job-listed xs k =
-      let links = flatMap fields (linksAt edges as₁ as₂ as₃ as₄) in
-      k ∙ ap (λ (n : ℕ). nodes ∷ n ∷ links) (sym (rows-length edges as₁ as₂ as₃ as₄))
+      let links = flatMap fields (linksAt edges c) in
+      k ∙ ap (λ (n : ℕ). nodes ∷ n ∷ links) (sym (rows-length edges c))

@@ -5,7 +5,7 @@ ghost use lib.ListN.{length};
 ghost use Rattle.frame.specs.Job.{jobNumbers, jobFrame};
 ghost use Rattle.frame.specs.Services.{written};
 ghost use Rattle.codec.specs.Numbers.{numbersAt, outcome};
-ghost use Rattle.links.specs.Columns.{jobAt};
+ghost use Rattle.frame.specs.Arrays.{columns, jobAt};
 use codec::Reply;
 use codec::refused;
 
@@ -23,7 +23,7 @@ fn list_numbers(
     requires places { ⌜ length (now numbers) ≡ 1026 ⌝ }
     ensures places { λ r. ⌜ length (now (numbers .exit)) ≡ 1026 ⌝ }
     ensures listed { λ r. ⌜ numbersAt (4 * edges + 2) (now (numbers .exit))
-        ≡ jobNumbers (jobAt nodes edges (now (end1 .entry)) (now (end2 .entry)) (now (cost .entry)) (now (mark .entry))) ⌝ }
+        ≡ jobNumbers (jobAt nodes edges (columns (now (end1 .entry)) (now (end2 .entry)) (now (cost .entry)) (now (mark .entry)))) ⌝ }
 {
     numbers[0] = nodes;
     numbers[1] = edges as u32;
@@ -52,7 +52,7 @@ pub fn write_job(
 ) -> Reply
     requires { ⌜ (refusal ≡ 0 → edges ≤ 256) ⌝ }
     ensures { λ r. ⌜ outcome r (now (area .exit))
-        ≡ written refusal (jobFrame (jobAt nodes edges (now (end1 .entry)) (now (end2 .entry)) (now (cost .entry)) (now (mark .entry)))) at
+        ≡ written refusal (jobFrame (jobAt nodes edges (columns (now (end1 .entry)) (now (end2 .entry)) (now (cost .entry)) (now (mark .entry))))) at
         (now (area .entry)) ⌝ }
 {
     if refusal != 0 {

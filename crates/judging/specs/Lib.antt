@@ -1,4 +1,3 @@
 -- What the judges say, and laws about it.
 pub mod Verdicts
 pub mod VerdictLaws
-pub mod JudgeLaws

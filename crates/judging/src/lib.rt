@@ -3,7 +3,8 @@ ghost use mathlib.Core.Path.{_≡_};
 ghost use mathlib.Core.Logic.{_≢_};
 ghost use mathlib.Core.List.{List};
 ghost use Prim.Native.Nat.{ℕ};
-ghost use Rattle.accept.specs.Accepting.{Asked, AskedSome};
+ghost use Rattle.frame.specs.Arrays.{arrays};
+ghost use Rattle.accept.specs.Accepting.{Asked, SomeHeld};
 ghost use Rattle.judging.specs.Verdicts.{TreeJudged, AnswerJudged};
 ghost use Rattle.judging.specs.declared.Verdict.the-variants.{Refused};
 use accept::accept;
@@ -26,9 +27,9 @@ pub fn judge_held(
     ts: &[u32; 256],
     mask: &[u64; 64],
 ) -> Verdict
-    requires { ⌜ AskedSome header (now end1) (now end2) (now cost) (now mark) (now ts) (now mask) ⌝ }
-    ensures judged { λ r. ⌜ ((s : List ℕ) → Asked s header (now (end1 .entry)) (now (end2 .entry)) (now (cost .entry)) (now (mark .entry)) (now (ts .entry))
-        (now (mask .entry)) → TreeJudged s r) ⌝ }
+    requires { ⌜ SomeHeld header (arrays (now end1) (now end2) (now cost) (now mark) (now ts) (now mask)) ⌝ }
+    ensures judged { λ r. ⌜ ((s : List ℕ) → Asked s header (arrays (now (end1 .entry)) (now (end2 .entry)) (now (cost .entry)) (now (mark .entry)) (now (ts .entry))
+        (now (mask .entry))) → TreeJudged s r) ⌝ }
     ensures refused { λ r. ⌜ (header .refusal ≢ 0 → r ≡ Refused (header .refusal)) ⌝ }
 {
     let refusal = header.refusal;
@@ -78,18 +79,18 @@ pub fn judge_answer_held(
     mask: &[u64; 64],
     offered: &[u8],
 ) -> Verdict
-    requires { ⌜ AskedSome header (now end1) (now end2) (now cost) (now mark) (now ts) (now mask) ⌝ }
-    ensures judged { λ r. ⌜ ((s : List ℕ) → Asked s header (now (end1 .entry)) (now (end2 .entry)) (now (cost .entry)) (now (mark .entry)) (now (ts .entry))
-        (now (mask .entry)) → AnswerJudged s (now (offered .entry)) r) ⌝ }
+    requires { ⌜ SomeHeld header (arrays (now end1) (now end2) (now cost) (now mark) (now ts) (now mask)) ⌝ }
+    ensures judged { λ r. ⌜ ((s : List ℕ) → Asked s header (arrays (now (end1 .entry)) (now (end2 .entry)) (now (cost .entry)) (now (mark .entry)) (now (ts .entry))
+        (now (mask .entry))) → AnswerJudged s (now (offered .entry)) r) ⌝ }
     ensures refused { λ r. ⌜ (header .refusal ≢ 0 → r ≡ Refused (header .refusal)) ⌝ }
 {
     let first = header.refusal;
     if first != 0 {
         return Verdict::Refused(first);
     }
+    let nodes = header.nodes;
     let edges = header.edges as usize;
-    let count = header.nodes as usize - 1;
-    if !certify::certify(offered, edges, ts, count, end1, end2, cost, mark, mask) {
+    if !certify::certify(offered, nodes, edges, ts, end1, end2, cost, mark, mask) {
         return Verdict::No;
     }
     Verdict::Yes

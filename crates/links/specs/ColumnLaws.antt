@@ -6,7 +6,7 @@ use mathlib.Core.List.{List, map}
 use lib.ListN.{length, getD, drop, length-map, List·getD-append, List·getD-map, replicate, length-replicate, getD-replicate, List·getD-eq-default}
 use lib.Seq.{sets, sets-eq, getD-drop, getD-append-add}
 use Rattle.frame.specs.Job.{JobLink, noLink}
-use Rattle.links.specs.Columns.{linksAt}
+use Rattle.frame.specs.Arrays.{Columns, linkAt, linksAt}
 use Rattle.loops.specs.GatherLaws.{length-tabulate}
 use native.Mathlib.Decide.{decLt}
 
@@ -27,11 +27,8 @@ column f z ls l e h k =
     List·getD-map f ls e noLink
 
 -- Four arrays have as many links as are asked for.
-pub rows-length : (edges : ℕ) (as₁ as₂ as₃ as₄ : List ℕ) → length (linksAt edges as₁ as₂ as₃ as₄) ≡ edges
-rows-length edges as₁ as₂ as₃ as₄ = length-tabulate row edges
-  where
-    row : ℕ → JobLink
-    row e = record { end₁ = getD as₁ e 0; end₂ = getD as₂ e 0; cost = getD as₃ e 0; mark = getD as₄ e 0 }
+pub rows-length : (edges : ℕ) (c : Columns) → length (linksAt edges c) ≡ edges
+rows-length edges c = length-tabulate (linkAt c) edges
 
 -- An array of zeros.
 abbrev pub zeros : ℕ → List ℕ

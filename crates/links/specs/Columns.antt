@@ -1,4 +1,4 @@
--- Links in four arrays: the job that they hold, and the questions over them. Definitions only. Assumes nothing.
+-- Links in four arrays: the questions over them. Definitions only. Assumes nothing.
 use Prim.Native.Nat.{ℕ}
 use mathlib.Core.Bool.{Bool, not, _&&_}
 use mathlib.Core.Path.{_≡_}
@@ -6,21 +6,11 @@ use mathlib.Core.List.{List, map}
 use lib.Dec.{ltb, leb, eqb}
 use lib.ListN.{length, getD}
 use Rattle.loops.specs.Below.{allBelow}
-use Rattle.loops.specs.Loop.{tabulate}
-use Rattle.frame.specs.Job.{JobLink, Job}
+use Rattle.frame.specs.Job.{JobLink}
+use Rattle.frame.specs.Arrays.{Columns, linkAt}
 use Rattle.frame.specs.Services.{smallNumbers}
 
--- The links of four arrays.
-abbrev pub linksAt : ℕ → List ℕ → List ℕ → List ℕ → List ℕ → List JobLink
-linksAt n as₁ as₂ as₃ as₄ =
-    tabulate n λ e.
-    record { end₁ = getD as₁ e 0; end₂ = getD as₂ e 0; cost = getD as₃ e 0; mark = getD as₄ e 0 }
-
--- The job of four arrays.
-abbrev pub jobAt : ℕ → ℕ → List ℕ → List ℕ → List ℕ → List ℕ → Job
-jobAt nodes n as₁ as₂ as₃ as₄ = record { nodes = nodes; links = linksAt n as₁ as₂ as₃ as₄ }
-
--- The four columns of a list of links, and arrays whose first places hold them.
+-- The four columns of a list of links.
 abbrev pub firsts : List JobLink → List ℕ
 firsts ls = map (λ (l : JobLink). l .end₁) ls
 
@@ -50,14 +40,12 @@ abbrev pub marksHold : ℕ → List ℕ → Bool
 marksHold m as₄ = allBelow m (markedAt as₄)
 
 -- Question 1 over arrays.
-abbrev pub linksSmall : ℕ → List ℕ → List ℕ → List ℕ → List ℕ → Bool
-linksSmall n as₁ as₂ as₃ as₄ =
-    allBelow n λ e.
-    smallNumbers (record { end₁ = getD as₁ e 0; end₂ = getD as₂ e 0; cost = getD as₃ e 0; mark = getD as₄ e 0 })
+abbrev pub linksSmall : ℕ → Columns → Bool
+linksSmall n c = allBelow n λ e. smallNumbers (linkAt c e)
 
 -- Four arrays of 256 places.
-pub record Places (as₁ as₂ as₃ as₄ : List ℕ) : Type 0 where
-  pub end₁ : length as₁ ≡ 256
-  pub end₂ : length as₂ ≡ 256
-  pub cost : length as₃ ≡ 256
-  pub mark : length as₄ ≡ 256
+pub record Places (c : Columns) : Type 0 where
+  pub end₁ : length (c .end₁) ≡ 256
+  pub end₂ : length (c .end₂) ≡ 256
+  pub cost : length (c .cost) ≡ 256
+  pub mark : length (c .mark) ≡ 256

@@ -12,7 +12,8 @@ use Rattle.frame.specs.Job.{JobLink, noLink, link}
 use Rattle.limits.specs.Limits.{maxNumber, maxNodes, maxEdges}
 use Rattle.frame.specs.Services.{smallNumbers, small}
 use Rattle.frame.specs.Questions.{counted, listFormRefusal, question4, question5}
-use Rattle.links.specs.Columns.{linksAt, jobAt, Places, endsApart, endsHold, marksHold, linksSmall}
+use Rattle.frame.specs.Arrays.{Columns, linkAt, linksAt, jobAt}
+use Rattle.links.specs.Columns.{Places, endsApart, endsHold, marksHold, linksSmall}
 use native.Mathlib.Decide.{decLt}
 use mathlib.Core.Logic.{⊎-elim}
 use lib.Dec.{leb}
@@ -20,21 +21,22 @@ use Rattle.loops.specs.TestLaws.{truth, clash, all-at, all-of, all-same}
 use Rattle.links.specs.ColumnLaws.{rows-length}
 
 -- Question 1 of one link, by the tests of the code.
-module _ (a b c m : ℕ) where
-  pub large-first : maxNumber < a → smallNumbers (record { end₁ = a; end₂ = b; cost = c; mark = m }) ≡ false
-  large-first l = rw (lt-leb a maxNumber l)
+module _ (l : JobLink) where
+  pub large-first : maxNumber < l .end₁ → smallNumbers l ≡ false
+  large-first m = rw (lt-leb (l .end₁) maxNumber m)
 
-  pub large-second : a ≤ maxNumber → maxNumber < b → smallNumbers (record { end₁ = a; end₂ = b; cost = c; mark = m }) ≡ false
-  large-second k₁ l = rw (le-leb a maxNumber k₁, lt-leb b maxNumber l)
+  pub large-second : l .end₁ ≤ maxNumber → maxNumber < l .end₂ → smallNumbers l ≡ false
+  large-second k₁ m = rw (le-leb (l .end₁) maxNumber k₁, lt-leb (l .end₂) maxNumber m)
 
-  pub large-third : a ≤ maxNumber → b ≤ maxNumber → maxNumber < c → smallNumbers (record { end₁ = a; end₂ = b; cost = c; mark = m }) ≡ false
-  large-third k₁ k₂ l = rw (le-leb a maxNumber k₁, le-leb b maxNumber k₂, lt-leb c maxNumber l)
+  pub large-third : l .end₁ ≤ maxNumber → l .end₂ ≤ maxNumber → maxNumber < l .cost → smallNumbers l ≡ false
+  large-third k₁ k₂ m = rw (le-leb (l .end₁) maxNumber k₁, le-leb (l .end₂) maxNumber k₂, lt-leb (l .cost) maxNumber m)
 
-  pub large-mark : a ≤ maxNumber → b ≤ maxNumber → c ≤ maxNumber → maxNumber < m → smallNumbers (record { end₁ = a; end₂ = b; cost = c; mark = m }) ≡ false
-  large-mark k₁ k₂ k₃ l = rw (le-leb a maxNumber k₁, le-leb b maxNumber k₂, le-leb c maxNumber k₃, lt-leb m maxNumber l)
+  module _ (k₁ : l .end₁ ≤ maxNumber) (k₂ : l .end₂ ≤ maxNumber) (k₃ : l .cost ≤ maxNumber) where
+    pub large-mark : maxNumber < l .mark → smallNumbers l ≡ false
+    large-mark m = rw (le-leb (l .end₁) maxNumber k₁, le-leb (l .end₂) maxNumber k₂, le-leb (l .cost) maxNumber k₃, lt-leb (l .mark) maxNumber m)
 
-  pub small-holds : a ≤ maxNumber → b ≤ maxNumber → c ≤ maxNumber → m ≤ maxNumber → smallNumbers (record { end₁ = a; end₂ = b; cost = c; mark = m }) ≡ true
-  small-holds k₁ k₂ k₃ k₄ = rw (le-leb a maxNumber k₁, le-leb b maxNumber k₂, le-leb c maxNumber k₃, le-leb m maxNumber k₄)
+    pub small-holds : l .mark ≤ maxNumber → smallNumbers l ≡ true
+    small-holds k₄ = rw (le-leb (l .end₁) maxNumber k₁, le-leb (l .end₂) maxNumber k₂, le-leb (l .cost) maxNumber k₃, le-leb (l .mark) maxNumber k₄)
 
 -- What holds from k on need be tested below k only.
 all-cut : (n k : ℕ) (p : ℕ → Bool) → ((i : ℕ) → k ≤ i → p i ≡ true) → allBelow n p ≡ allBelow (min n k) p
@@ -47,98 +49,92 @@ all-cut n k p h = ⊎-elim (λ y. whole y ∙ sym y) (λ m. part m ∙ sym m) (t
     part m =
         ⊎-elim (λ y. clash (all-of (min n k) p (λ i l. all-at n p y i (omega arith))) m) (λ f. f) (truth (allBelow n p))
 
-module _ (nodes edges : ℕ) (as₁ as₂ as₃ as₄ : List ℕ) where
-  row : ℕ → JobLink
-  row e = record { end₁ = getD as₁ e 0; end₂ = getD as₂ e 0; cost = getD as₃ e 0; mark = getD as₄ e 0 }
-
+module _ (nodes edges : ℕ) (c : Columns) where
   -- The links of the job of the arrays are those at their places.
-  rows-link : (e : ℕ) → e < edges → link (jobAt nodes edges as₁ as₂ as₃ as₄) e ≡ row e
-  unfolding row
-  rows-link e l = getD-tabulate row edges e noLink l
+  rows-link : (e : ℕ) → e < edges → link (jobAt nodes edges c) e ≡ linkAt c e
+  rows-link e l = getD-tabulate (linkAt c) edges e noLink l
 
   -- A test of every link is a test of every row.
   rows-all :
       (p : JobLink → Bool) →
-      allBelow (length (linksAt edges as₁ as₂ as₃ as₄)) (λ e. p (link (jobAt nodes edges as₁ as₂ as₃ as₄) e)) ≡ allBelow edges (λ e. p (row e))
+      allBelow (length (linksAt edges c)) (λ e. p (link (jobAt nodes edges c) e)) ≡ allBelow edges (λ e. p (linkAt c e))
   rows-all p =
-      ap (λ (n : ℕ). allBelow n (λ e. p (link (jobAt nodes edges as₁ as₂ as₃ as₄) e))) (rows-length edges as₁ as₂ as₃ as₄) ∙
-      all-same edges (λ e. p (link (jobAt nodes edges as₁ as₂ as₃ as₄) e)) (λ e. p (row e)) (λ e l. ap p (rows-link e l))
+      ap (λ (n : ℕ). allBelow n (λ e. p (link (jobAt nodes edges c) e))) (rows-length edges c) ∙
+      all-same edges (λ e. p (link (jobAt nodes edges c) e)) (λ e. p (linkAt c e)) (λ e l. ap p (rows-link e l))
 
-  pub list-ends : question4 (jobAt nodes edges as₁ as₂ as₃ as₄) ≡ endsHold nodes edges as₁ as₂
-  unfolding question4 row
+  pub list-ends : question4 (jobAt nodes edges c) ≡ endsHold nodes edges (c .end₁) (c .end₂)
+  unfolding question4
   list-ends = rows-all (λ (l : JobLink). endsApart nodes (l .end₁) (l .end₂))
 
-  pub list-marks : question5 (jobAt nodes edges as₁ as₂ as₃ as₄) ≡ marksHold edges as₄
-  unfolding question5 row
+  pub list-marks : question5 (jobAt nodes edges c) ≡ marksHold edges (c .mark)
+  unfolding question5
   list-marks = rows-all (λ (l : JobLink). leb (l .mark) 1)
 
-  pub list-counted : counted (jobAt nodes edges as₁ as₂ as₃ as₄) ≡ (leb 1 nodes && leb nodes maxNodes && leb edges maxEdges)
+  pub list-counted : counted (jobAt nodes edges c) ≡ (leb 1 nodes && leb nodes maxNodes && leb edges maxEdges)
   unfolding counted
-  list-counted = rw (rows-length edges as₁ as₂ as₃ as₄)
+  list-counted = rw (rows-length edges c)
 
   -- Past the arrays' ends there are zeros, which are small.
-  module _ (p : Places as₁ as₂ as₃ as₄) where
-    past : (e : ℕ) → 256 ≤ e → smallNumbers (row e) ≡ true
-    unfolding row
+  module _ (p : Places c) where
+    past : (e : ℕ) → 256 ≤ e → smallNumbers (linkAt c e) ≡ true
     past e l =
         rw (
-          List·getD-eq-default as₁ 0 (at (p .end₁)),
-          List·getD-eq-default as₂ 0 (at (p .end₂)),
-          List·getD-eq-default as₃ 0 (at (p .cost)),
-          List·getD-eq-default as₄ 0 (at (p .mark)),
+          List·getD-eq-default (c .end₁) 0 (at (p .end₁)),
+          List·getD-eq-default (c .end₂) 0 (at (p .end₂)),
+          List·getD-eq-default (c .cost) 0 (at (p .cost)),
+          List·getD-eq-default (c .mark) 0 (at (p .mark)),
         )
       where
         at : {n : ℕ} → n ≡ 256 → n ≤ e
         at h = omega arith
 
-    held-all : linksSmall edges as₁ as₂ as₃ as₄ ≡ linksSmall (min edges 256) as₁ as₂ as₃ as₄
-    unfolding row
-    held-all = all-cut edges 256 (λ e. smallNumbers (row e)) past
+    held-all : linksSmall edges c ≡ linksSmall (min edges 256) c
+    held-all = all-cut edges 256 (λ e. smallNumbers (linkAt c e)) past
 
-    pub list-small : small (jobAt nodes edges as₁ as₂ as₃ as₄) ≡ (leb nodes maxNumber && leb edges maxNumber && linksSmall (min edges 256) as₁ as₂ as₃ as₄)
-    unfolding small row
-    list-small = rw (rows-length edges as₁ as₂ as₃ as₄) (ap (λ (b : Bool). leb nodes maxNumber && leb edges maxNumber && b) (by-rows ∙ held-all))
+    pub list-small : small (jobAt nodes edges c) ≡ (leb nodes maxNumber && leb edges maxNumber && linksSmall (min edges 256) c)
+    unfolding small
+    list-small = rw (rows-length edges c) (ap (λ (b : Bool). leb nodes maxNumber && leb edges maxNumber && b) (by-rows ∙ held-all))
       where
-        by-rows : allBelow edges (λ e. smallNumbers (link (jobAt nodes edges as₁ as₂ as₃ as₄) e)) ≡ linksSmall edges as₁ as₂ as₃ as₄
+        by-rows : allBelow edges (λ e. smallNumbers (link (jobAt nodes edges c) e)) ≡ linksSmall edges c
         by-rows =
-            all-same edges (λ e. smallNumbers (link (jobAt nodes edges as₁ as₂ as₃ as₄) e)) (λ e. smallNumbers (row e)) (λ e l. ap smallNumbers (rows-link e l))
+            all-same edges (λ e. smallNumbers (link (jobAt nodes edges c) e)) (λ e. smallNumbers (linkAt c e)) (λ e l. ap smallNumbers (rows-link e l))
 
     -- The first "no", test by test.
-    module _ (q : linksSmall (min edges 256) as₁ as₂ as₃ as₄ ≡ true) (n₁ : nodes ≤ maxNumber) (e₁ : edges ≤ maxNumber) where
-      all-small : small (jobAt nodes edges as₁ as₂ as₃ as₄) ≡ true
+    module _ (q : linksSmall (min edges 256) c ≡ true) (n₁ : nodes ≤ maxNumber) (e₁ : edges ≤ maxNumber) where
+      all-small : small (jobAt nodes edges c) ≡ true
       all-small = list-small ∙ rw (le-leb nodes maxNumber n₁, le-leb edges maxNumber e₁, q)
 
-      pub check-empty : nodes < 1 → listFormRefusal (jobAt nodes edges as₁ as₂ as₃ as₄) ≡ 2
+      pub check-empty : nodes < 1 → listFormRefusal (jobAt nodes edges c) ≡ 2
       check-empty l = rw (all-small, list-counted, lt-leb 1 nodes l)
 
-      pub check-nodes : 1 ≤ nodes → maxNodes < nodes → listFormRefusal (jobAt nodes edges as₁ as₂ as₃ as₄) ≡ 2
+      pub check-nodes : 1 ≤ nodes → maxNodes < nodes → listFormRefusal (jobAt nodes edges c) ≡ 2
       check-nodes k l = rw (all-small, list-counted, le-leb 1 nodes k, lt-leb nodes maxNodes l)
 
-      pub check-edges : 1 ≤ nodes → nodes ≤ maxNodes → maxEdges < edges → listFormRefusal (jobAt nodes edges as₁ as₂ as₃ as₄) ≡ 2
+      pub check-edges : 1 ≤ nodes → nodes ≤ maxNodes → maxEdges < edges → listFormRefusal (jobAt nodes edges c) ≡ 2
       check-edges k₁ k₂ l = rw (all-small, list-counted, le-leb 1 nodes k₁, le-leb nodes maxNodes k₂, lt-leb edges maxEdges l)
 
       module _ (k₁ : 1 ≤ nodes) (k₂ : nodes ≤ maxNodes) (k₃ : edges ≤ maxEdges) where
-        all-counted : counted (jobAt nodes edges as₁ as₂ as₃ as₄) ≡ true
+        all-counted : counted (jobAt nodes edges c) ≡ true
         all-counted = list-counted ∙ rw (le-leb 1 nodes k₁, le-leb nodes maxNodes k₂, le-leb edges maxEdges k₃)
 
-        pub check-ends : endsHold nodes edges as₁ as₂ ≡ false → listFormRefusal (jobAt nodes edges as₁ as₂ as₃ as₄) ≡ 4
+        pub check-ends : endsHold nodes edges (c .end₁) (c .end₂) ≡ false → listFormRefusal (jobAt nodes edges c) ≡ 4
         check-ends n = rw (all-small, all-counted, list-ends, n)
 
-        pub check-marks : endsHold nodes edges as₁ as₂ ≡ true → marksHold edges as₄ ≡ false → listFormRefusal (jobAt nodes edges as₁ as₂ as₃ as₄) ≡ 5
+        pub check-marks : endsHold nodes edges (c .end₁) (c .end₂) ≡ true → marksHold edges (c .mark) ≡ false → listFormRefusal (jobAt nodes edges c) ≡ 5
         check-marks y n = rw (all-small, all-counted, list-ends, y, list-marks, n)
 
-        pub check-passed : endsHold nodes edges as₁ as₂ ≡ true → marksHold edges as₄ ≡ true → listFormRefusal (jobAt nodes edges as₁ as₂ as₃ as₄) ≡ 0
+        pub check-passed : endsHold nodes edges (c .end₁) (c .end₂) ≡ true → marksHold edges (c .mark) ≡ true → listFormRefusal (jobAt nodes edges c) ≡ 0
         check-passed y₄ y₅ = rw (all-small, all-counted, list-ends, y₄, list-marks, y₅)
 
-    pub check-large-nodes : maxNumber < nodes → listFormRefusal (jobAt nodes edges as₁ as₂ as₃ as₄) ≡ 1
+    pub check-large-nodes : maxNumber < nodes → listFormRefusal (jobAt nodes edges c) ≡ 1
     check-large-nodes l = rw (list-small, lt-leb nodes maxNumber l)
 
-    pub check-large-edges : nodes ≤ maxNumber → maxNumber < edges → listFormRefusal (jobAt nodes edges as₁ as₂ as₃ as₄) ≡ 1
+    pub check-large-edges : nodes ≤ maxNumber → maxNumber < edges → listFormRefusal (jobAt nodes edges c) ≡ 1
     check-large-edges k l = rw (list-small, le-leb nodes maxNumber k, lt-leb edges maxNumber l)
 
     pub check-large :
         nodes ≤ maxNumber →
         edges ≤ maxNumber →
-        linksSmall (min edges 256) as₁ as₂ as₃ as₄ ≡ false →
-        listFormRefusal (jobAt nodes edges as₁ as₂ as₃ as₄) ≡ 1
+        linksSmall (min edges 256) c ≡ false →
+        listFormRefusal (jobAt nodes edges c) ≡ 1
     check-large k₁ k₂ n = rw (list-small, le-leb nodes maxNumber k₁, le-leb edges maxNumber k₂, n)

@@ -4,7 +4,8 @@ ghost use mathlib.Core.Bool.{true};
 ghost use Prim.Native.Nat.{_+_, _≤_, _<_, min};
 ghost use Rattle.limits.specs.Limits.{maxEdges};
 ghost use Rattle.loops.specs.Below.{allBelow};
-ghost use Rattle.links.specs.Columns.{endsApart, apartAt, endsHold, markedAt, marksHold, Places, linksSmall, jobAt};
+ghost use Rattle.links.specs.Columns.{endsApart, apartAt, endsHold, markedAt, marksHold, Places, linksSmall};
+ghost use Rattle.frame.specs.Arrays.{columns, jobAt};
 ghost use Rattle.frame.specs.Questions.{listFormRefusal};
 use limits::MOST_COUNT;
 use limits::MOST_LENGTH;
@@ -125,7 +126,7 @@ fn links_small(
     mark: &[u32; 256],
 ) -> bool
     requires { ⌜ edges ≤ 256 ⌝ }
-    ensures { λ r. ⌜ r ≡ linksSmall edges (now (end1 .entry)) (now (end2 .entry)) (now (cost .entry)) (now (mark .entry)) ⌝ }
+    ensures { λ r. ⌜ r ≡ linksSmall edges (columns (now (end1 .entry)) (now (end2 .entry)) (now (cost .entry)) (now (mark .entry))) ⌝ }
 {
     let mut e: usize = 0;
     while e < edges {
@@ -166,8 +167,8 @@ pub fn check_list(
     cost: &[u32; 256],
     mark: &[u32; 256],
 ) -> u32
-    requires { ⌜ Places (now end1) (now end2) (now cost) (now mark) ⌝ }
-    ensures { λ r. ⌜ r ≡ listFormRefusal (jobAt nodes edges (now (end1 .entry)) (now (end2 .entry)) (now (cost .entry)) (now (mark .entry))) ⌝ }
+    requires { ⌜ Places (columns (now end1) (now end2) (now cost) (now mark)) ⌝ }
+    ensures { λ r. ⌜ r ≡ listFormRefusal (jobAt nodes edges (columns (now (end1 .entry)) (now (end2 .entry)) (now (cost .entry)) (now (mark .entry)))) ⌝ }
 {
     if MOST_NUMBER < nodes {
         return 1;

@@ -18,7 +18,7 @@ use Rattle.frame.specs.Services.{Place, nowhere, written}
 use Rattle.codec.specs.declared.Reply.{Reply}
 use Rattle.accept.specs.ListJobs.{listJob, Given}
 use Rattle.accept.specs.ListJobLaws.{lent}
-use Rattle.accept.specs.ListAskedLaws.{numbers-bytes}
+use Rattle.frame.specs.Accepted.{numbers-bytes}
 use Rattle.judging.specs.declared.Verdict.{Verdict}
 use Rattle.judging.specs.declared.Verdict.the-variants.{Refused}
 use Rattle.judging.specs.Verdicts.{VerdictOn}

@@ -17,15 +17,16 @@ use Rattle.frame.specs.Lists.{list-read}
 use Rattle.frame.specs.Outcomes.{served-of, served-none}
 use Rattle.job.specs.declared.Header.{Header}
 use Rattle.codec.specs.declared.Reply.{Reply}
-use Rattle.links.specs.Columns.{jobAt}
+use Rattle.frame.specs.Arrays.{Arrays, jobAt}
 use Rattle.codec.specs.Numbers.{outcome}
 use Rattle.codec.specs.WritingLaws.{put-refused}
 use Rattle.accept.specs.Accepting.{Asked}
 use Rattle.job.specs.Reading.{refusedHeader}
-use Rattle.accept.specs.AcceptLaws.{accepted-number, accepted-nodes, accepted-edges, accepted-few}
+use Rattle.accept.specs.AcceptLaws.{accepted-number, accepted-few}
 use Rattle.accept.specs.ListJobs.{listJob, countRefusal, Given, ListAccepted}
-use Rattle.accept.specs.ListAcceptLaws.{held-job}
-use Rattle.accept.specs.ListAskedLaws.{numbers-bytes, list-asked, asked-large}
+use Rattle.held.specs.HeldLaws.{stored-job}
+use Rattle.accept.specs.ListAcceptLaws.{asked-large}
+use Rattle.frame.specs.Accepted.{numbers-bytes}
 use Rattle.judging.specs.declared.Verdict.{Verdict}
 use Rattle.judging.specs.declared.Verdict.the-variants.{Refused}
 use Rattle.answering.specs.Answering.{Answered, Untouched}
@@ -82,64 +83,63 @@ large-written j f area r after u =
 
 -- ---- a list that was accepted or refused
 
-module _ {h : Header} {as₁ as₂ as₃ as₄ ts mask : List ℕ} (j : Job) (a : ListAccepted j h as₁ as₂ as₃ as₄ ts mask) where
+module _ {h : Header} {b : Arrays} (j : Job) (a : ListAccepted j h b) where
   list-judged :
       (Judged : List ℕ → Verdict → Type 0) (r : Verdict) →
-      ((s : List ℕ) → Asked s h as₁ as₂ as₃ as₄ ts mask → Judged s r) →
+      ((s : List ℕ) → Asked s h b → Judged s r) →
       (h .refusal ≢ 0 → r ≡ Refused (h .refusal)) →
       ListJudged j Judged r
   list-judged Judged r said refused =
       record {
-        large = λ n. let one = asked-large j n a in refused (λ z. omega (arith, one, z)) ∙ ap Refused one;
-        said = λ y. said (jobFrame j) (list-asked j y a);
+        large = λ n. let one = asked-large n a in refused (λ z. omega (arith, one, z)) ∙ ap Refused one;
+        said = λ y. said (jobFrame j) (a .asked y);
       }
 
   list-answered :
       (area : List ℕ) (r : Reply) (after : List ℕ) →
-      ((s : List ℕ) → Asked s h as₁ as₂ as₃ as₄ ts mask → Answered s area r after) →
+      ((s : List ℕ) → Asked s h b → Answered s area r after) →
       (h .refusal ≢ 0 → Untouched (h .refusal) area r after) →
       ListAnswered j area r after
   list-answered area r after said refused =
       record {
-        large = λ n. let one = asked-large j n a in subst (λ (x : ℕ). Untouched x area r after) one (refused (λ z. omega (arith, one, z)));
-        said = λ y. said (jobFrame j) (list-asked j y a);
+        large = λ n. let one = asked-large n a in subst (λ (x : ℕ). Untouched x area r after) one (refused (λ z. omega (arith, one, z)));
+        said = λ y. said (jobFrame j) (a .asked y);
       }
 
   list-located :
       (f : List ℕ) (e : ℕ) (place : Place) →
-      ((s : List ℕ) → Asked s h as₁ as₂ as₃ as₄ ts mask → CostLocated s f e place) →
+      ((s : List ℕ) → Asked s h b → CostLocated s f e place) →
       (h .refusal ≢ 0 → place ≡ nowhere) →
       ListCostLocated j f e place
   list-located f e place said refused =
       record {
-        large = λ n. let one = asked-large j n a in refused (λ z. omega (arith, one, z));
-        said = λ y. said (jobFrame j) (list-asked j y a);
+        large = λ n. let one = asked-large n a in refused (λ z. omega (arith, one, z));
+        said = λ y. said (jobFrame j) (a .asked y);
       }
 
   module _ (area : List ℕ) (r : Reply) (after : List ℕ)
-      (e : outcome r after ≡ written (h .refusal) (jobFrame (jobAt (h .nodes) (h .edges) as₁ as₂ as₃ as₄)) 0 area) where
-    held-frame : small j ≡ true → h .refusal ≡ 0 → jobFrame (jobAt (h .nodes) (h .edges) as₁ as₂ as₃ as₄) ≡ jobFrame j
+      (e : outcome r after ≡ written (h .refusal) (jobFrame (jobAt (h .nodes) (h .edges) (b .links))) 0 area) where
+    held-frame : small j ≡ true → h .refusal ≡ 0 → jobFrame (jobAt (h .nodes) (h .edges) (b .links)) ≡ jobFrame j
     held-frame y z =
-        ap jobFrame (held-job (jobOf (jobFrame j)) (h .nodes) (h .edges) as₁ as₂ as₃ as₄ ts mask (a .held y z) (accepted-nodes (jobFrame j) h (a .header y) z)
-        (accepted-edges (jobFrame j) h (a .header y) z) ∙ list-read j y)
+        ap jobFrame (stored-job (a .asked y .held z .stored) ∙ list-read j y)
 
     frame-said : small j ≡ true → outcome r after ≡ written (refusal (jobFrame j)) (jobFrame j) 0 area
     frame-said y =
-        e ∙ written-same (h .refusal) (jobFrame (jobAt (h .nodes) (h .edges) as₁ as₂ as₃ as₄)) (jobFrame j) area (held-frame y) ∙
-        ap (λ (k : ℕ). written k (jobFrame j) 0 area) (sym (accepted-number (jobFrame j) h (a .header y)))
+        e ∙ written-same (h .refusal) (jobFrame (jobAt (h .nodes) (h .edges) (b .links))) (jobFrame j) area (held-frame y) ∙
+        ap (λ (k : ℕ). written k (jobFrame j) 0 area) (sym (accepted-number (jobFrame j) h (a .asked y .header-is)))
 
     list-written : ListWritten j area r after
     list-written =
-        let bytes = jobFrame (jobAt (h .nodes) (h .edges) as₁ as₂ as₃ as₄) in
+        let bytes = jobFrame (jobAt (h .nodes) (h .edges) (b .links)) in
         ⊎-elim
         (λ y. small-written j y area r after (frame-said y))
-        (λ f. large-written j f area r after (untouched 1 bytes (λ z. omega (arith, z)) (e ∙ ap (λ (n : ℕ). written n bytes 0 area) (asked-large j f a))))
+        (λ f. large-written j f area r after (untouched 1 bytes (λ z. omega (arith, z)) (e ∙ ap (λ (n : ℕ). written n bytes 0 area) (asked-large f a))))
         (truth (small j))
 
 -- ---- what was given of a list was accepted or refused
 
-module _ {nodes count : ℕ} {word : Bool} {links : List Link} {h : Header} {as₁ as₂ as₃ as₄ ts mask : List ℕ}
-    (g : Given nodes count word links (λ n. h ≡ refusedHeader n) (λ j. ListAccepted j h as₁ as₂ as₃ as₄ ts mask)) where
+module _ {nodes count : ℕ} {word : Bool} {links : List Link} {h : Header} {b : Arrays}
+    (g : Given nodes count word links (λ n. h ≡ refusedHeader n) (λ j. ListAccepted j h b)) where
   -- What is said of a refusal is said of one by the word or by the counts.
   early : (P : ℕ → Type 0) → (h .refusal ≢ 0 → P (h .refusal)) → countRefusal nodes count word ≢ 0 → P (countRefusal nodes count word)
   early P refused n =
@@ -153,7 +153,7 @@ module _ {nodes count : ℕ} {word : Bool} {links : List Link} {h : Header} {as�
         | yes z ↦
             let a = g .said z in
             ⊎-elim
-            (λ y. accepted-few (jobFrame (listJob nodes (take count links))) h (a .header y) (numbers-bytes (jobNumbers (listJob nodes (take count links)))))
+            (λ y. accepted-few (jobFrame (listJob nodes (take count links))) h (a .asked y .header-is) (numbers-bytes (jobNumbers (listJob nodes (take count links)))))
             (λ f. omega (arith, ap (λ (h : Header). h .edges) (a .large f)))
             (truth (small (listJob nodes (take count links))))
         | no n ↦ omega (arith, ap (λ (h : Header). h .edges) (g .refused n))
@@ -161,14 +161,14 @@ module _ {nodes count : ℕ} {word : Bool} {links : List Link} {h : Header} {as�
 
   pub given-judged :
       (Judged : List ℕ → Verdict → Type 0) (r : Verdict) →
-      ((s : List ℕ) → Asked s h as₁ as₂ as₃ as₄ ts mask → Judged s r) →
+      ((s : List ℕ) → Asked s h b → Judged s r) →
       (h .refusal ≢ 0 → r ≡ Refused (h .refusal)) →
       Given nodes count word links (λ n. r ≡ Refused n) (λ j. ListJudged j Judged r)
   given-judged Judged r said refused = record { refused = early (λ n. r ≡ Refused n) refused; said = λ z. list-judged _ (g .said z) Judged r said refused }
 
   pub given-answered :
       (area : List ℕ) (r : Reply) (after : List ℕ) →
-      ((s : List ℕ) → Asked s h as₁ as₂ as₃ as₄ ts mask → Answered s area r after) →
+      ((s : List ℕ) → Asked s h b → Answered s area r after) →
       (h .refusal ≢ 0 → Untouched (h .refusal) area r after) →
       Given nodes count word links (λ n. Untouched n area r after) (λ j. ListAnswered j area r after)
   given-answered area r after said refused =
@@ -176,7 +176,7 @@ module _ {nodes count : ℕ} {word : Bool} {links : List Link} {h : Header} {as�
 
   pub given-located :
       (f : List ℕ) (e : ℕ) (place : Place) →
-      ((s : List ℕ) → Asked s h as₁ as₂ as₃ as₄ ts mask → CostLocated s f e place) →
+      ((s : List ℕ) → Asked s h b → CostLocated s f e place) →
       (h .refusal ≢ 0 → place ≡ nowhere) →
       Given nodes count word links (λ _. place ≡ nowhere) (λ j. ListCostLocated j f e place)
   given-located f e place said refused =
@@ -184,10 +184,10 @@ module _ {nodes count : ℕ} {word : Bool} {links : List Link} {h : Header} {as�
 
   pub given-written :
       (area : List ℕ) (r : Reply) (after : List ℕ) →
-      outcome r after ≡ written (h .refusal) (jobFrame (jobAt (h .nodes) (h .edges) as₁ as₂ as₃ as₄)) 0 area →
+      outcome r after ≡ written (h .refusal) (jobFrame (jobAt (h .nodes) (h .edges) (b .links))) 0 area →
       Given nodes count word links (λ n. Untouched n area r after) (λ j. ListWritten j area r after)
   given-written area r after e =
       record {
-        refused = early (λ n. Untouched n area r after) (λ n. untouched (h .refusal) (jobFrame (jobAt (h .nodes) (h .edges) as₁ as₂ as₃ as₄)) n e);
+        refused = early (λ n. Untouched n area r after) (λ n. untouched (h .refusal) (jobFrame (jobAt (h .nodes) (h .edges) (b .links))) n e);
         said = λ z. list-written _ (g .said z) area r after e;
       }

@@ -12,6 +12,7 @@ use borrow.Author.Tests.{lt-ltb, le-ltb, eq-eqb, ne-eqb, ltb-true}
 use Rattle.loops.specs.FirstLaws.{first-found}
 use Rattle.loops.specs.TestLaws.{and-first, and-second, all-at}
 use Rattle.paths.specs.Arrays.{arrayTree, across}
+use Rattle.frame.specs.Arrays.{Arrays}
 use Rattle.frame.specs.Answers.{rankOf, pairFrom}
 use Rattle.pairing.specs.Pairs.{pairHeld, pairsHeld, pairLater, Falling}
 
@@ -48,53 +49,53 @@ module _ (ts : List ℕ) (p e : ℕ) (room : p ≤ length ts) where
 
 -- ---- one pair
 
-module _ (edges p : ℕ) (ts as₁ as₂ as₃ as₄ mask : List ℕ) (t s : ℕ) where
-  pub tree-past : edges ≤ t → pairHeld edges p ts as₁ as₂ as₃ as₄ mask t s ≡ false
+module _ (edges p : ℕ) (a : Arrays) (t s : ℕ) where
+  pub tree-past : edges ≤ t → pairHeld edges p a t s ≡ false
   unfolding pairHeld
   tree-past l = rw (le-ltb t edges l)
 
-  pub tree-unmarked : t < edges → (getD as₄ t 0 ≡ 1 → ⊥) → pairHeld edges p ts as₁ as₂ as₃ as₄ mask t s ≡ false
+  pub tree-unmarked : t < edges → (getD (a .links .mark) t 0 ≡ 1 → ⊥) → pairHeld edges p a t s ≡ false
   unfolding pairHeld
-  tree-unmarked l d = rw (lt-ltb t edges l, ne-eqb (getD as₄ t 0) 1 d)
+  tree-unmarked l d = rw (lt-ltb t edges l, ne-eqb (getD (a .links .mark) t 0) 1 d)
 
-  module _ (below : t < edges) (marked : getD as₄ t 0 ≡ 1) where
-    pub spare-past : edges ≤ s → pairHeld edges p ts as₁ as₂ as₃ as₄ mask t s ≡ false
+  module _ (below : t < edges) (marked : getD (a .links .mark) t 0 ≡ 1) where
+    pub spare-past : edges ≤ s → pairHeld edges p a t s ≡ false
     unfolding pairHeld
-    spare-past l = rw (lt-ltb t edges below, eq-eqb (getD as₄ t 0) 1 marked, le-ltb s edges l)
+    spare-past l = rw (lt-ltb t edges below, eq-eqb (getD (a .links .mark) t 0) 1 marked, le-ltb s edges l)
 
-    pub spare-marked : s < edges → getD as₄ s 0 ≡ 1 → pairHeld edges p ts as₁ as₂ as₃ as₄ mask t s ≡ false
+    pub spare-marked : s < edges → getD (a .links .mark) s 0 ≡ 1 → pairHeld edges p a t s ≡ false
     unfolding pairHeld
-    spare-marked l e = rw (lt-ltb t edges below, eq-eqb (getD as₄ t 0) 1 marked, lt-ltb s edges l, eq-eqb (getD as₄ s 0) 1 e)
+    spare-marked l e = rw (lt-ltb t edges below, eq-eqb (getD (a .links .mark) t 0) 1 marked, lt-ltb s edges l, eq-eqb (getD (a .links .mark) s 0) 1 e)
 
-    module _ (within : s < edges) (spare : getD as₄ s 0 ≡ 1 → ⊥) (k : ℕ) (rank : k ≡ rankOf (take p ts) t)
-        (r : Bool) (crosses : r ≡ across mask (getD as₁ s 0) (getD as₂ s 0) k) where
-      covering : across mask (getD as₁ s 0) (getD as₂ s 0) (rankOf (take p ts) t) ≡ r
-      covering = ap (across mask (getD as₁ s 0) (getD as₂ s 0)) (sym rank) ∙ sym crosses
+    module _ (within : s < edges) (spare : getD (a .links .mark) s 0 ≡ 1 → ⊥) (k : ℕ) (rank : k ≡ rankOf (take p (a .ranks)) t)
+        (r : Bool) (crosses : r ≡ across (a .mask) (getD (a .links .end₁) s 0) (getD (a .links .end₂) s 0) k) where
+      covering : across (a .mask) (getD (a .links .end₁) s 0) (getD (a .links .end₂) s 0) (rankOf (take p (a .ranks)) t) ≡ r
+      covering = ap (across (a .mask) (getD (a .links .end₁) s 0) (getD (a .links .end₂) s 0)) (sym rank) ∙ sym crosses
 
-      pub spare-apart : r ≡ false → pairHeld edges p ts as₁ as₂ as₃ as₄ mask t s ≡ false
+      pub spare-apart : r ≡ false → pairHeld edges p a t s ≡ false
       unfolding pairHeld
-      spare-apart e = rw (lt-ltb t edges below, eq-eqb (getD as₄ t 0) 1 marked, lt-ltb s edges within, ne-eqb (getD as₄ s 0) 1 spare, covering, e)
+      spare-apart e = rw (lt-ltb t edges below, eq-eqb (getD (a .links .mark) t 0) 1 marked, lt-ltb s edges within, ne-eqb (getD (a .links .mark) s 0) 1 spare, covering, e)
 
-      pub pair-dearer : r ≡ true → ltb (getD as₃ s 0) (getD as₃ t 0) ≡ pairHeld edges p ts as₁ as₂ as₃ as₄ mask t s
+      pub pair-dearer : r ≡ true → ltb (getD (a .links .cost) s 0) (getD (a .links .cost) t 0) ≡ pairHeld edges p a t s
       unfolding pairHeld
-      pair-dearer e = rw (lt-ltb t edges below, eq-eqb (getD as₄ t 0) 1 marked, lt-ltb s edges within, ne-eqb (getD as₄ s 0) 1 spare, covering, e)
+      pair-dearer e = rw (lt-ltb t edges below, eq-eqb (getD (a .links .mark) t 0) 1 marked, lt-ltb s edges within, ne-eqb (getD (a .links .mark) s 0) 1 spare, covering, e)
 
   -- What a pair that holds is.
-  module _ (h : pairHeld edges p ts as₁ as₂ as₃ as₄ mask t s ≡ true) where
+  module _ (h : pairHeld edges p a t s ≡ true) where
     abbrev t₁ : Bool
     t₁ = ltb t edges
 
     abbrev t₂ : Bool
-    t₂ = t₁ && arrayTree as₄ t
+    t₂ = t₁ && arrayTree (a .links .mark) t
 
     abbrev t₃ : Bool
     t₃ = t₂ && ltb s edges
 
     abbrev t₄ : Bool
-    t₄ = t₃ && not (arrayTree as₄ s)
+    t₄ = t₃ && not (arrayTree (a .links .mark) s)
 
     abbrev t₅ : Bool
-    t₅ = t₄ && across mask (getD as₁ s 0) (getD as₂ s 0) (rankOf (take p ts) t)
+    t₅ = t₄ && across (a .mask) (getD (a .links .end₁) s 0) (getD (a .links .end₂) s 0) (rankOf (take p (a .ranks)) t)
 
     third : t₃ ≡ true
     unfolding pairHeld
@@ -106,20 +107,20 @@ module _ (edges p : ℕ) (ts as₁ as₂ as₃ as₄ mask : List ℕ) (t s : ℕ
     pub held-spare : s < edges
     held-spare = ltb-true _ _ (and-second t₂ _ third)
 
-    pub held-falls : getD as₃ s 0 < getD as₃ t 0
+    pub held-falls : getD (a .links .cost) s 0 < getD (a .links .cost) t 0
     unfolding pairHeld
     held-falls = ltb-true _ _ (and-second t₅ _ h)
 
 -- Pairs that hold fall.
 pub held-falling :
-    (edges p : ℕ) (ts as₁ as₂ as₃ as₄ mask : List ℕ) (count : ℕ) (ps : List ℕ) → edges ≤ 256 → count ≤ 64
-    → pairsHeld edges p ts as₁ as₂ as₃ as₄ mask count ps ≡ true → Falling count ps as₃
-held-falling edges p ts as₁ as₂ as₃ as₄ mask count ps l few h =
+    (edges p : ℕ) (a : Arrays) (count : ℕ) (ps : List ℕ) → edges ≤ 256 → count ≤ 64
+    → pairsHeld edges p a count ps ≡ true → Falling count ps (a .links .cost)
+held-falling edges p a count ps l few h =
     record {
       few = few;
-      tree = λ i b. omega (arith, held-tree edges p ts as₁ as₂ as₃ as₄ mask (pairFrom ps i .tree) (pairFrom ps i .spare) (all-at count _ h i b));
-      spare = λ i b. omega (arith, held-spare edges p ts as₁ as₂ as₃ as₄ mask (pairFrom ps i .tree) (pairFrom ps i .spare) (all-at count _ h i b));
-      falls = λ i b. omega (arith, held-falls edges p ts as₁ as₂ as₃ as₄ mask (pairFrom ps i .tree) (pairFrom ps i .spare) (all-at count _ h i b));
+      tree = λ i b. omega (arith, held-tree edges p a (pairFrom ps i .tree) (pairFrom ps i .spare) (all-at count _ h i b));
+      spare = λ i b. omega (arith, held-spare edges p a (pairFrom ps i .tree) (pairFrom ps i .spare) (all-at count _ h i b));
+      falls = λ i b. omega (arith, held-falls edges p a (pairFrom ps i .tree) (pairFrom ps i .spare) (all-at count _ h i b));
     }
 
 -- ---- two pairs

@@ -6,22 +6,22 @@ use lib.Dec.{ltb, eqb}
 use lib.ListN.{getD, take}
 use Rattle.loops.specs.Below.{allBelow}
 use Rattle.paths.specs.Arrays.{arrayTree, arrayCost, across}
-use Rattle.cheapest.specs.Judge.{Judged}
+use Rattle.frame.specs.Arrays.{Arrays}
 use Rattle.frame.specs.Answers.{rankOf, pairFrom}
 
--- A pair of links t and s: t in the tree, s not, s covers t, and the old cost of s is below that of t.
-unfoldable pub pairHeld : ℕ → ℕ → List ℕ → List ℕ → List ℕ → List ℕ → List ℕ → List ℕ → ℕ → ℕ → Bool
-pairHeld edges p ts as₁ as₂ as₃ as₄ mask t s =
+-- A pair of links t and s: t in the tree, s not, s covers t, and the old cost of s is below that of t. The first p ranks
+-- count.
+unfoldable pub pairHeld : ℕ → ℕ → Arrays → ℕ → ℕ → Bool
+pairHeld edges p a t s =
     ltb t edges &&
-    arrayTree as₄ t &&
+    arrayTree (a .links .mark) t &&
     ltb s edges &&
-    not (arrayTree as₄ s) &&
-    across mask (getD as₁ s 0) (getD as₂ s 0) (rankOf (take p ts) t) &&
-    ltb (arrayCost as₃ s) (arrayCost as₃ t)
+    not (arrayTree (a .links .mark) s) &&
+    across (a .mask) (getD (a .links .end₁) s 0) (getD (a .links .end₂) s 0) (rankOf (take p (a .ranks)) t) &&
+    ltb (arrayCost (a .links .cost) s) (arrayCost (a .links .cost) t)
 
-abbrev pub pairsHeld : ℕ → ℕ → List ℕ → List ℕ → List ℕ → List ℕ → List ℕ → List ℕ → ℕ → List ℕ → Bool
-pairsHeld edges p ts as₁ as₂ as₃ as₄ mask count ps =
-    allBelow count λ i. pairHeld edges p ts as₁ as₂ as₃ as₄ mask (pairFrom ps i .tree) (pairFrom ps i .spare)
+abbrev pub pairsHeld : ℕ → ℕ → Arrays → ℕ → List ℕ → Bool
+pairsHeld edges p a count ps = allBelow count λ i. pairHeld edges p a (pairFrom ps i .tree) (pairFrom ps i .spare)
 
 -- Two pairs in the order of the list; and every pair before pair i.
 abbrev pub pairLater : List ℕ → ℕ → ℕ → Bool
@@ -40,8 +40,3 @@ pub record Falling (count : ℕ) (ps as₃ : List ℕ) : Type 0 where
   pub tree : (i : ℕ) → i < count → pairFrom ps i .tree < 256
   pub spare : (i : ℕ) → i < count → pairFrom ps i .spare < 256
   pub falls : (i : ℕ) → i < count → getD as₃ (pairFrom ps i .spare) 0 ≤ getD as₃ (pairFrom ps i .tree) 0
-
--- What the judge asks of the arrays: what the judge of trees does, and that there are at most 63 tree edges.
-pub record Judging (edges p : ℕ) (ts as₁ as₂ mask : List ℕ) : Type 0 where
-  pub judged : Judged edges p ts as₁ as₂ mask
-  pub few : p ≤ 63

@@ -3,8 +3,10 @@ ghost use mathlib.Core.Path.{_≡_};
 ghost use Prim.Native.Nat.{_-_, _≤_, _<_};
 ghost use lib.ListN.{length, getD, take};
 ghost use Rattle.loops.specs.Below.{allBelow, sum};
+ghost use Rattle.cheapest.specs.Judge.{Judged};
+ghost use Rattle.frame.specs.Arrays.{arrays};
 ghost use Rattle.frame.specs.Answers.{rankOf};
-ghost use Rattle.pairing.specs.Pairs.{pairHeld, pairsHeld, pairRises, fall, Falling, Judging};
+ghost use Rattle.pairing.specs.Pairs.{pairHeld, pairsHeld, pairRises, fall, Falling};
 use ids::Edge;
 use ids::Node;
 use ids::TreeRank;
@@ -41,9 +43,9 @@ fn pair_holds(
     mark: &[u32; 256],
     mask: &[u64; 64],
 ) -> bool
-    requires { ⌜ Judging edges trees (now ts) (now end1) (now end2) (now mask) ⌝ }
-    ensures { λ r. ⌜ r ≡ pairHeld edges trees (now (ts .entry)) (now (end1 .entry)) (now (end2 .entry)) (now (cost .entry)) (now (mark .entry))
-        (now (mask .entry)) (t .0) (s .0) ⌝ }
+    requires { ⌜ Judged edges trees (now ts) (now end1) (now end2) (now mask) ⌝ }
+    ensures { λ r. ⌜ r ≡ pairHeld edges trees (arrays (now (end1 .entry)) (now (end2 .entry)) (now (cost .entry)) (now (mark .entry))
+        (now (ts .entry)) (now (mask .entry))) (t .0) (s .0) ⌝ }
 {
     let tree = t.0 as usize;
     let spare = s.0 as usize;
@@ -82,9 +84,9 @@ pub fn pairs_hold(
     mask: &[u64; 64],
 ) -> bool
     requires { ⌜ count ≤ 64 ⌝ }
-    requires job { ⌜ Judging edges trees (now ts) (now end1) (now end2) (now mask) ⌝ }
-    ensures { λ r. ⌜ r ≡ pairsHeld edges trees (now (ts .entry)) (now (end1 .entry)) (now (end2 .entry)) (now (cost .entry)) (now (mark .entry))
-        (now (mask .entry)) count (now (pairs .entry)) ⌝ }
+    requires job { ⌜ Judged edges trees (now ts) (now end1) (now end2) (now mask) ⌝ }
+    ensures { λ r. ⌜ r ≡ pairsHeld edges trees (arrays (now (end1 .entry)) (now (end2 .entry)) (now (cost .entry)) (now (mark .entry))
+        (now (ts .entry)) (now (mask .entry))) count (now (pairs .entry)) ⌝ }
 {
     let mut i: usize = 0;
     while i < count {

@@ -10,13 +10,14 @@ use Rattle.loops.specs.Loop.{tabulate}
 use Rattle.loops.specs.GatherLaws.{length-tabulate, getD-tabulate}
 use Rattle.number.specs.Number.{Bytes}
 use Rattle.frame.specs.Job.{JobLink, Job, noLink, link, jobFrame}
+use Rattle.frame.specs.Arrays.{Columns, linkAt}
 use Rattle.frame.specs.Questions.{jobOf, refusal}
 use Rattle.frame.specs.Form.{first-no}
 use Rattle.frame.specs.Accepted.{accepted, write-read6}
 use Rattle.records.specs.declared.Link.{Link}
 use Rattle.records.specs.Records.{zeroLink, firstLinks, copied}
 use Rattle.records.specs.RecordsLaws.{copied-none, copied-more, copied-all, firsts-length, firsts-at}
-use Rattle.accept.specs.Accepting.{Held}
+use Rattle.held.specs.Held.{Stored}
 use Rattle.accept.specs.ListJobs.{jobLink}
 use Rattle.reading.specs.JobsRead.{linkOf, gathered, refusedRead, givenOf, jobIn, JobGiven}
 use Rattle.reading.specs.declared.JobRead.{JobRead}
@@ -27,36 +28,30 @@ use Rattle.reading.specs.declared.JobRead.{JobRead}
 whole : (n : ℕ) (ys : List Link) → length ys ≡ n → firstLinks n ys ≡ ys
 whole n ys l = ext-getD zeroLink (firstLinks n ys) ys (firsts-length n ys ∙ sym l) λ e k. firsts-at n ys e (omega (arith, firsts-length n ys))
 
-module _ (n : ℕ) (as₁ as₂ as₃ as₄ : List ℕ) where
-  row : ℕ → Link
-  row e = record { end1 = getD as₁ e 0; end2 = getD as₂ e 0; cost = getD as₃ e 0; mark = getD as₄ e 0 }
+module _ (n : ℕ) (c : Columns) where
+  abbrev row : ℕ → Link
+  row e = linkOf (linkAt c e)
 
   -- The first e links are gathered.
   pub record Gathering (links : List Link) (e : ℕ) : Type 0 where
     pub within : e ≤ n
-    pub is : links ≡ copied n e (gathered n as₁ as₂ as₃ as₄)
+    pub is : links ≡ copied n e (gathered n c)
 
   pub gather-start : Gathering (replicate n zeroLink) 0
-  gather-start = record { within = omega arith; is = sym (copied-none n (gathered n as₁ as₂ as₃ as₄)) }
+  gather-start = record { within = omega arith; is = sym (copied-none n (gathered n c)) }
 
-  pub gather-turn :
-      (links : List Link) (e : ℕ) →
-      e < n →
-      Gathering links e →
-      Gathering (set links e (record { end1 = getD as₁ e 0; end2 = getD as₂ e 0; cost = getD as₃ e 0; mark = getD as₄ e 0 })) (e + 1)
-  unfolding row
+  pub gather-turn : (links : List Link) (e : ℕ) → e < n → Gathering links e → Gathering (set links e (linkOf (linkAt c e))) (e + 1)
   gather-turn links e l g =
-      let ys = gathered n as₁ as₂ as₃ as₄ in
+      let ys = gathered n c in
       let here : getD ys e zeroLink ≡ row e = getD-tabulate row n e zeroLink l in
       record {
         within = omega arith;
         is = (λ i. set (g .is i) e (sym here i)) ∙ copied-more n e ys l (omega (arith, length-tabulate row n));
       }
 
-  pub gather-end : (links : List Link) (e : ℕ) → n ≤ e → Gathering links e → links ≡ gathered n as₁ as₂ as₃ as₄
-  unfolding row
+  pub gather-end : (links : List Link) (e : ℕ) → n ≤ e → Gathering links e → links ≡ gathered n c
   gather-end links e l g =
-      let ys = gathered n as₁ as₂ as₃ as₄ in
+      let ys = gathered n c in
       let size : length ys ≡ n = length-tabulate row n in
       let all : e ≡ min (length ys) n = omega (arith, g .within, size) in
       g .is ∙ ap (λ (k : ℕ). copied n k ys) all ∙ copied-all n ys ∙ whole n ys size
@@ -64,15 +59,14 @@ module _ (n : ℕ) (as₁ as₂ as₃ as₄ : List ℕ) where
 -- ---- a job's links as records
 
 -- Arrays that hold a job, gathered, are its links as records.
-pub gathered-held :
-    (n : ℕ) (j : Job) (as₁ as₂ as₃ as₄ ts mask : List ℕ) → Held j as₁ as₂ as₃ as₄ ts mask → gathered n as₁ as₂ as₃ as₄ ≡ firstLinks n (map linkOf (j .links))
-gathered-held n j as₁ as₂ as₃ as₄ ts mask h =
+pub gathered-stored : (n : ℕ) {j : Job} {nodes edges : ℕ} {c : Columns} → Stored j nodes edges c → gathered n c ≡ firstLinks n (map linkOf (j .links))
+gathered-stored n {j} k =
     let ls = j .links in
     let f : ℕ → Link = λ e. linkOf (link j e) in
-    (λ i. tabulate n λ e. record { end1 = h .end₁ i e; end2 = h .end₂ i e; cost = h .cost i e; mark = h .mark i e }) ∙
+    (λ i. tabulate n λ e. record { end1 = k .end₁ i e; end2 = k .end₂ i e; cost = k .cost i e; mark = k .mark i e }) ∙
     ext-getD zeroLink (tabulate n f) (firstLinks n (map linkOf ls)) (length-tabulate f n ∙ sym (firsts-length n (map linkOf ls)))
-    λ e l. let k : e < n = omega (arith, length-tabulate f n) in
-    getD-tabulate f n e zeroLink k ∙ sym (firsts-at n (map linkOf ls) e k ∙ List·getD-map linkOf ls e noLink)
+    λ e l. let b : e < n = omega (arith, length-tabulate f n) in
+    getD-tabulate f n e zeroLink b ∙ sym (firsts-at n (map linkOf ls) e b ∙ List·getD-map linkOf ls e noLink)
 
 -- The links that were read, as the job's.
 taken-back : (n : ℕ) (ls : List JobLink) → length ls ≤ n → map jobLink (take (length ls) (firstLinks n (map linkOf ls))) ≡ ls

@@ -2,9 +2,10 @@
 use Prim.Native.Nat.{ℕ, zero, suc}
 use mathlib.Core.Path.{_≡_}
 use mathlib.Core.List.{List, map}
-use lib.ListN.{length, getD, take, replicate}
+use lib.ListN.{length, take, replicate}
 use Rattle.loops.specs.Loop.{tabulate}
 use Rattle.frame.specs.Job.{JobLink, Job, jobFrame}
+use Rattle.frame.specs.Arrays.{Columns, linkAt}
 use Rattle.frame.specs.Questions.{jobOf, refusal}
 use Rattle.frame.specs.Meaning.{FirstNo}
 use Rattle.records.specs.declared.Link.{Link}
@@ -17,10 +18,8 @@ abbrev pub linkOf : JobLink → Link
 linkOf l = record { end1 = l .end₁; end2 = l .end₂; cost = l .cost; mark = l .mark }
 
 -- The first n links of four arrays.
-abbrev pub gathered : ℕ → List ℕ → List ℕ → List ℕ → List ℕ → List Link
-gathered n as₁ as₂ as₃ as₄ =
-    tabulate n λ e.
-    record { end1 = getD as₁ e 0; end2 = getD as₂ e 0; cost = getD as₃ e 0; mark = getD as₄ e 0 }
+abbrev pub gathered : ℕ → Columns → List Link
+gathered n c = tabulate n λ e. linkOf (linkAt c e)
 
 -- Nothing but a refusal.
 abbrev pub refusedRead : ℕ → JobRead

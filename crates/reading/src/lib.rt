@@ -4,6 +4,7 @@ ghost use Prim.Native.Nat.{_≤_};
 ghost use mathlib.Core.Option.{some};
 ghost use lib.ListN.{length};
 ghost use Rattle.optimum.specs.Optimum.{Answer};
+ghost use Rattle.frame.specs.Arrays.{columns};
 ghost use Rattle.frame.specs.Answers.{readAnswer};
 ghost use Rattle.reading.specs.AnswersRead.{AnswerGiven, unread, answerRead};
 ghost use Rattle.reading.specs.JobsRead.{JobGiven, refusedRead, gathered};
@@ -39,7 +40,7 @@ fn refused(refusal: u32) -> JobRead
 
 // The links of four arrays, as records.
 fn gather(end1: &[u32; 256], end2: &[u32; 256], cost: &[u32; 256], mark: &[u32; 256]) -> [Link; 256]
-    ensures { λ r. ⌜ r ≡ gathered 256 (now (end1 .entry)) (now (end2 .entry)) (now (cost .entry)) (now (mark .entry)) ⌝ }
+    ensures { λ r. ⌜ r ≡ gathered 256 (columns (now (end1 .entry)) (now (end2 .entry)) (now (cost .entry)) (now (mark .entry))) ⌝ }
 {
     let mut links = [Link {
         end1: 0,

@@ -1,20 +1,20 @@
 -- What the functions of the solver require and give. Definitions only. Assumes nothing.
-use Prim.Native.Nat.{ℕ, _≤_}
+use Prim.Native.Nat.{ℕ, _≤_, _<_}
 use mathlib.Core.Path.{_≡_}
+use mathlib.Core.Bool.{_&&_}
 use mathlib.Core.List.{List}
+use lib.Dec.{ltb}
 use lib.ListN.{length, getD, take}
 use Rattle.optimum.specs.Search.{Problem}
 use Rattle.optimum.specs.Lowest.{labels}
-use Rattle.optimum.specs.Solve.{newCosts}
-use Rattle.frame.specs.Job.{Job}
-use Rattle.frame.specs.Answers.{answerOf}
-use Rattle.frame.specs.Meaning.{Accepted}
-use Rattle.codec.specs.Held.{answerAt}
+use Rattle.optimum.specs.Solve.{newCosts, partners}
+use Rattle.frame.specs.Arrays.{Columns, Arrays}
+use Rattle.sets.specs.Sets.{inRow}
+use Rattle.ranks.specs.Keys.{spareList}
 use Rattle.links.specs.ColumnLaws.{zeros}
 use Rattle.search.specs.State.{arrayMates, Below, Taken}
-use Rattle.solution.specs.Asked.{RanksRise}
-use Rattle.matching.specs.Progress.{Edges, Holds}
-use Rattle.accept.specs.Accepting.{Held}
+use Rattle.solution.specs.Asked.{undercuts, RanksRise}
+use Rattle.matching.specs.Progress.{Edges, Holds, Built}
 
 -- What placing new costs needs: a matching and the set of its spare ranks, ranks that name edges, and arrays of zeros.
 pub record Costable (trees spares : ℕ) (cost ts ss taken mates label costs : List ℕ) : Type 0 where
@@ -40,19 +40,24 @@ pub record Costed (trees spares : ℕ) (cost ts ss rows mates mates′ costs : L
       (p : Problem) → p .trees ≡ trees → Holds p spares cost ts ss rows
       → _≡_ {A = ℕ → ℕ} (λ e. getD costs e 0) (newCosts (take trees ts) (take spares ss) (labels p (arrayMates mates)))
 
--- What the solver needs: an accepted job in the arrays, an array of zeros for the new costs, and room for the pairs.
-pub record Solvable (nodes edges : ℕ) (as₁ as₂ as₃ as₄ ts mask costs ps : List ℕ) : Type 0 where
-  pub job : Job
-  pub held : Held job as₁ as₂ as₃ as₄ ts mask
-  pub accepted : Accepted job
-  pub nodes-are : nodes ≡ job .nodes
-  pub edges-are : edges ≡ length (job .links)
-  pub empty : costs ≡ zeros 256
-  pub places : length ps ≡ 128
+-- The spares of links in arrays, by rank.
+pub record SparesRanked (edges : ℕ) (c : Columns) (spares : ℕ) (ss : List ℕ) : Type 0 where
+  pub size : spares ≡ length (spareList edges (c .cost) (c .mark))
+  pub ranked : take spares ss ≡ spareList edges (c .cost) (c .mark)
+  pub places : length ss ≡ 256
 
--- What it leaves: of every job that the arrays hold, the answer.
-pub record SolvedAs (nodes edges : ℕ) (as₁ as₂ as₃ as₄ ts mask : List ℕ) (steps count : ℕ) (costs ps : List ℕ) : Type 0 where
-  pub few : count ≤ 64
-  pub answer :
-      (j : Job) → Held j as₁ as₂ as₃ as₄ ts mask → Accepted j → nodes ≡ j .nodes → edges ≡ length (j .links)
-      → answerAt steps edges costs count ps ≡ answerOf j
+-- The rows that say which spare ranks matter to a tree rank.
+abbrev pub RowsFilled : ℕ → Arrays → ℕ → List ℕ → List ℕ → Type 0
+RowsFilled trees a spares ss rows =
+    (t s : ℕ) → t < trees → s < 256
+    → inRow rows t s ≡ (ltb s spares && undercuts (a .links .cost) (a .ranks) ss (a .links .end₁) (a .links .end₂) (a .mask) t s)
+
+-- What is known once the matching is found, the new costs are placed and the mates are back at their links.
+pub record Matched (trees edges : ℕ) (a : Arrays) (spares : ℕ) (ss rows mates taken mates′ costs mate : List ℕ) : Type 0 where
+  pub ranks : SparesRanked edges (a .links) spares ss
+  pub filled : RowsFilled trees a spares ss rows
+  pub built : Built trees spares (a .links .cost) (a .ranks) ss rows mates taken
+  pub costed : Costed trees spares (a .links .cost) (a .ranks) ss rows mates mates′ costs
+  pub joined :
+      (p : ℕ) → ((s : ℕ) → s < spares → getD mates′ s 0 ≤ p)
+      → _≡_ {A = ℕ → ℕ} (λ e. getD mate e 0) (partners (take p (a .ranks)) (take spares ss) (λ s. getD mates′ s 0))

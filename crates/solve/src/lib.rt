@@ -1,7 +1,14 @@
 // Finds the best costs of an accepted job that is held in arrays: the matching, the lowest new costs, the pairs.
 ghost use mathlib.Core.Path.{_≡_};
+ghost use Prim.Native.Nat.{_≤_};
 ghost use lib.ListN.{length};
-ghost use Rattle.solve.specs.Solving.{Costable, Costed, Solvable, SolvedAs};
+ghost use Rattle.frame.specs.Job.{Job};
+ghost use Rattle.frame.specs.Arrays.{arrays};
+ghost use Rattle.frame.specs.Answers.{answerOf};
+ghost use Rattle.codec.specs.Held.{answerAt};
+ghost use Rattle.links.specs.ColumnLaws.{zeros};
+ghost use Rattle.held.specs.Held.{Held};
+ghost use Rattle.solve.specs.Solving.{Costable, Costed};
 
 // The lowest new costs of the matching in `mates`, put at their links.
 fn new_costs(
@@ -57,9 +64,13 @@ pub fn solve(
     costs: &mut [u32; 256],
     pairs: &mut [u32; 128],
 ) -> Solved
-    requires { ⌜ Solvable nodes edges (now end1) (now end2) (now cost) (now mark) (now ts) (now mask) (now costs) (now pairs) ⌝ }
-    ensures { λ r. ⌜ SolvedAs nodes edges (now (end1 .entry)) (now (end2 .entry)) (now (cost .entry)) (now (mark .entry)) (now (ts .entry))
-        (now (mask .entry)) (r .steps) (r .count) (now (costs .exit)) (now (pairs .exit)) ⌝ }
+    requires job { ⌜ ((j : Job) × Held j nodes edges (arrays (now end1) (now end2) (now cost) (now mark) (now ts) (now mask))) ⌝ }
+    requires empty { ⌜ now costs ≡ zeros 256 ⌝ }
+    requires places { ⌜ length (now pairs) ≡ 128 ⌝ }
+    ensures few { λ r. ⌜ r .count ≤ 64 ⌝ }
+    ensures answer { λ r. ⌜ ((j : Job)
+        → Held j nodes edges (arrays (now (end1 .entry)) (now (end2 .entry)) (now (cost .entry)) (now (mark .entry)) (now (ts .entry)) (now (mask .entry)))
+        → answerAt (r .steps) edges (now (costs .exit)) (r .count) (now (pairs .exit)) ≡ answerOf j) ⌝ }
 {
     let trees = nodes - 1;
     let mut ss = [0u32; 256];

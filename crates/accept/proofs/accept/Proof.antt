@@ -2,7 +2,8 @@
 use mathlib.Core.Path.{_≡_, _∙_}
 use Rattle.number.specs.Number.{Bytes}
 use Rattle.frame.specs.Questions.{jobOf, formRefusal}
-use Rattle.accept.specs.Accepting.{StoredAs}
+use Rattle.frame.specs.Arrays.{columns, arrays}
+use Rattle.held.specs.Held.{Stored}
 use Rattle.accept.specs.AcceptLaws.{form-number, accept-refused, refused-nonzero, header-nodes, header-edges, tree-refused, tree-accepted}
 use Rattle.accept.specs.ArrayLaws.{stored, empty-places}
 use borrow.Author.Needs.{needs}
@@ -22,20 +23,17 @@ kept :
     (k : tie.Else1) →
     let r = k .before .load-job in
     let l = r .last .1 in
-    StoredAs (jobOf (k .before .before .before .before .before .before .before .args .frame .now)) (r .result .nodes) (r .result .edges) (l .0) (l .1 .0)
-    (l .1 .1 .0) (l .1 .1 .1 .0)
+    Stored (jobOf (k .before .before .before .before .before .before .before .args .frame .now)) (r .result .nodes) (r .result .edges)
+    (columns (l .0) (l .1 .0) (l .1 .1 .0) (l .1 .1 .1 .0))
 kept k =
     let st = k .before .before .before .before .before .before .before in
     let a = st .args in
     let r = k .before .load-job in
     let l = r .last .1 in
-    record {
-      stored =
-          stored (a .frame .now) (a .end1 .now) (a .end2 .now) (a .cost .now) (a .mark .now) (a .ts .now) (l .0) (l .1 .0) (l .1 .1 .0) (l .1 .1 .1 .0)
-          (bytes k) (good k) (st .pre) (r .ensures .1 (k .if1 .left));
-      nodes-are = header-nodes (a .frame .now) (r .result) (r .ensures .0) (bytes k) (k .if1 .left);
-      edges-are = header-edges (a .frame .now) (r .result) (r .ensures .0) (bytes k) (k .if1 .left);
-    }
+    stored (a .frame .now) (arrays (a .end1 .now) (a .end2 .now) (a .cost .now) (a .mark .now) (a .ts .now) (a .mask .now))
+    (columns (l .0) (l .1 .0) (l .1 .1 .0) (l .1 .1 .1 .0)) (r .result .nodes) (r .result .edges) (bytes k) (good k) (st .pre)
+    (r .ensures .1 (k .if1 .left)) (header-nodes (a .frame .now) (r .result) (r .ensures .0) (bytes k) (k .if1 .left))
+    (header-edges (a .frame .now) (r .result) (r .ensures .0) (bytes k) (k .if1 .left))
 
 abbrev form-of : tie.After-tree-refusal → tie.Else1
 form-of t = t .before .before .before .before .before .before .before .before

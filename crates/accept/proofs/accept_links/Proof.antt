@@ -2,19 +2,18 @@
 use Prim.Native.Nat.{ℕ, _≤_}
 use mathlib.Core.Path.{_≡_, sym, ap, subst, _∙_}
 use native.Mathlib.Omega.{arith}
-use lib.ListN.{take, length-map}
-use lib.Seq.{length-take-le}
+use lib.ListN.{take}
 use Rattle.frame.specs.Job.{Job}
 use Rattle.frame.specs.Questions.{listRefusal}
-use Rattle.links.specs.Columns.{jobAt}
-use Rattle.accept.specs.Accepting.{Held}
+use Rattle.frame.specs.Arrays.{Columns, columns, Arrays, arrays, jobAt}
+use Rattle.held.specs.Held.{Held}
 use Rattle.job.specs.Reading.{refusedHeader}
 use Rattle.accept.specs.Lists.{ListHeld}
 use Rattle.accept.specs.AcceptLaws.{refused-nonzero}
 use Rattle.accept.specs.ArrayLaws.{empty-places}
-use Rattle.accept.specs.ListJobs.{jobLink, listJob, countRefusal}
+use Rattle.accept.specs.ListJobs.{listJob, countRefusal}
 use Rattle.accept.specs.ListJobLaws.{list-count-few, columns-held, columns-job}
-use Rattle.accept.specs.ListAcceptLaws.{list-refused, list-held, some-held}
+use Rattle.accept.specs.ListAcceptLaws.{list-refused, list-held}
 use borrow.Author.Needs.{needs}
 use Rattle.accept.proofs.accept_links.Statement.{statement}
 use Rattle.accept.proofs.accept_links.Tie as tie
@@ -27,29 +26,32 @@ few : (k : tie.Else1) → k .before .before .args .count ≤ 256
 few k = let a = k .before .before .args in list-count-few (a .nodes) (a .count) (a .small) (passed k)
 
 -- the links are in the arrays
-held :
-    (s : tie.After-spread) →
-    let l = s .spread .last .1 .1 in ListHeld (s .before .before .before .before .before .before .before .args .count) (l .0) (l .1 .0) (l .1 .1 .0) (l .1 .1 .1 .0)
+abbrev start-of : tie.After-spread → tie.Start
+start-of s = s .before .before .before .before .before .before .before
+
+abbrev before-of : tie.After-spread → Arrays
+before-of s =
+    let a = start-of s .args in
+    arrays (a .end1 .now) (a .end2 .now) (a .cost .now) (a .mark .now) (a .ts .now) (a .mask .now)
+
+abbrev columns-of : tie.After-spread → Columns
+columns-of s = let l = s .spread .last .1 .1 in columns (l .0) (l .1 .0) (l .1 .1 .0) (l .1 .1 .1 .0)
+
+held : (s : tie.After-spread) → ListHeld (start-of s .args .count) (columns-of s)
 held s =
-    let st = s .before .before .before .before .before .before .before in
+    let st = start-of s in
     let a = st .args in
-    let l = s .spread .last .1 .1 in
     let e = s .spread .ensures in
-    columns-held (a .count) (a .links) (a .end1 .now) (a .end2 .now) (a .cost .now) (a .mark .now) (a .ts .now) (l .0) (l .1 .0) (l .1 .1 .0) (l .1 .1 .1 .0)
-    (st .good .1 .1 .1 .0 .1 .0 .1) (st .pre) (e .0) (e .1 .0) (e .1 .1 .0) (e .1 .1 .1)
+    columns-held (a .count) (a .links) (before-of s) (columns-of s) (st .good .1 .1 .1 .0 .1 .0 .1) (st .pre) (e .0) (e .1 .0) (e .1 .1 .0) (e .1 .1 .1)
 
 job :
     (s : tie.After-spread) →
-    let a = s .before .before .before .before .before .before .before .args in
-    let l = s .spread .last .1 .1 in
-    jobAt (a .nodes) (a .count) (l .0) (l .1 .0) (l .1 .1 .0) (l .1 .1 .1 .0) ≡ listJob (a .nodes) (take (a .count) (a .links))
+    let a = start-of s .args in jobAt (a .nodes) (a .count) (columns-of s) ≡ listJob (a .nodes) (take (a .count) (a .links))
 job s =
-    let st = s .before .before .before .before .before .before .before in
+    let st = start-of s in
     let a = st .args in
-    let l = s .spread .last .1 .1 in
     let e = s .spread .ensures in
-    columns-job (a .count) (a .links) (a .end1 .now) (a .end2 .now) (a .cost .now) (a .mark .now) (a .ts .now) (l .0) (l .1 .0) (l .1 .1 .0) (l .1 .1 .1 .0)
-    (st .good .1 .1 .1 .0 .1 .0 .1) (st .pre) (e .0) (e .1 .0) (e .1 .1 .0) (e .1 .1 .1)
+    columns-job (a .count) (a .links) (before-of s) (columns-of s) (st .good .1 .1 .1 .0 .1 .0 .1) (st .pre) (e .0) (e .1 .0) (e .1 .1 .0) (e .1 .1 .1)
     (few (s .before .before .before .before .before)) (a .nodes)
 
 -- the refusal that was found is that of the job
@@ -99,7 +101,7 @@ returns-2 c =
       record {
         refused = λ w. absurd (w (passed k));
         said =
-            λ _. list-refused (listJob (a .nodes) (take (a .count) (a .links))) (t .accept-list .result) (c .refused2 .result) _ _ _ _ _ _ (number t) n
+            λ _. list-refused (listJob (a .nodes) (take (a .count) (a .links))) (t .accept-list .result) (c .refused2 .result) _ (number t) n
             (c .refused2 .ensures);
       },
       λ z. absurd (refused-nonzero (c .refused2 .result) (t .accept-list .result) (c .refused2 .ensures) n z),
@@ -115,21 +117,17 @@ returns-3 c =
     let t = c .before in
     let s = t .before .before .before .before .before .before .before in
     let k = s .before .before .before .before .before in
-    let st = k .before .before in
-    let a = st .args in
-    let l = s .spread .last .1 .1 in
+    let a = start-of s .args in
     let z = c .if2 .left in
     let kept = t .accept-list .ensures .1 z in
-    let found = t .accept-list .last .1 .1 .1 .1 .1 .1 in
-    let size = length-map (take (a .count) (a .links)) jobLink ∙ length-take-le (a .count) (a .links) (omega (arith, few k, st .good .1 .1 .1 .0 .1 .0 .1)) in (
+    let found = t .accept-list .last .1 .1 .1 .1 .1 .1 in (
       record {
         refused = λ w. absurd (w (passed k));
         said = λ _.
-            list-held (listJob (a .nodes) (take (a .count) (a .links))) _ (l .0) (l .1 .0) (l .1 .1 .0) (l .1 .1 .1 .0) _ _ (sym (number t) ∙ z)
-            (ap (λ (m : ℕ). record { refusal = 0; nodes = a .nodes; edges = m }) (sym size))
-            (subst (λ (j : Job). Held j (l .0) (l .1 .0) (l .1 .1 .0) (l .1 .1 .1 .0) (found .0) (found .1 .0)) (job s) kept);
+            list-held (listJob (a .nodes) (take (a .count) (a .links))) (a .nodes) (a .count) _ (sym (number t) ∙ z)
+            (subst (λ (j : Job). Held j (a .nodes) (a .count) (record { links = columns-of s; ranks = found .0; mask = found .1 .0 })) (job s) kept);
       },
-      λ _. some-held (a .nodes) (a .count) (l .0) (l .1 .0) (l .1 .1 .0) (l .1 .1 .1 .0) _ _ (sym (t .accept-list .ensures .0) ∙ z) kept,
+      λ _. (_, kept),
     )
 
 pub accept-links-spec : {M : Type 1} → statement M

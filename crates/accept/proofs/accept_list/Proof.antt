@@ -1,41 +1,37 @@
 -- `accept::accept_list` meets its contract: the form is asked first, then the tree over the arrays. Assumes nothing.
-use mathlib.Core.Path.{_≡_, refl, sym, _∙_}
+use mathlib.Core.Path.{_≡_, sym, _∙_}
 use Rattle.frame.specs.Questions.{listFormRefusal}
-use Rattle.links.specs.Columns.{jobAt}
-use Rattle.links.specs.ColumnLaws.{rows-length}
-use Rattle.accept.specs.Accepting.{StoredAs}
+use Rattle.frame.specs.Job.{Job}
+use Rattle.frame.specs.Arrays.{Columns, columns, jobAt}
+use Rattle.held.specs.Held.{Stored}
 use Rattle.accept.specs.ListLaws.{list-form-refused, list-tree, list-stored}
 use borrow.Author.Needs.{needs}
 use Rattle.accept.proofs.accept_list.Statement.{statement}
 use Rattle.accept.proofs.accept_list.Tie as tie
 
+-- the links in their arrays
+abbrev columns-of : tie.Start → Columns
+columns-of t = let a = t .args in columns (a .end1 .now) (a .end2 .now) (a .cost .now) (a .mark .now)
+
+abbrev job-of : tie.Start → Job
+job-of t = jobAt (t .args .nodes) (t .args .edges) (columns-of t)
+
 -- questions 1 to 5 have passed: the job of the arrays stands in them
-good :
-    (k : tie.Else1) →
-    let a = k .before .before .args in listFormRefusal (jobAt (a .nodes) (a .edges) (a .end1 .now) (a .end2 .now) (a .cost .now) (a .mark .now)) ≡ 0
+good : (k : tie.Else1) → listFormRefusal (job-of (k .before .before)) ≡ 0
 good k = sym (k .before .check-list .ensures) ∙ k .if1 .left
 
-kept :
-    (k : tie.Else1) →
-    let a = k .before .before .args in
-    StoredAs (jobAt (a .nodes) (a .edges) (a .end1 .now) (a .end2 .now) (a .cost .now) (a .mark .now)) (a .nodes) (a .edges) (a .end1 .now) (a .end2 .now)
-    (a .cost .now) (a .mark .now)
+kept : (k : tie.Else1) → let t = k .before .before in Stored (job-of t) (t .args .nodes) (t .args .edges) (columns-of t)
 kept k =
-    let a = k .before .before .args in
-    record {
-      stored = list-stored (a .nodes) (a .edges) (a .end1 .now) (a .end2 .now) (a .cost .now) (a .mark .now) (k .before .before .pre .0) (good k);
-      nodes-are = refl;
-      edges-are = sym (rows-length (a .edges) (a .end1 .now) (a .end2 .now) (a .cost .now) (a .mark .now));
-    }
+    let t = k .before .before in
+    list-stored (t .args .nodes) (t .args .edges) (columns-of t) (t .pre .0) (good k)
 
 check-list-requires : tie.Need-check-list-requires
 check-list-requires c κs = search needs
 
 returns : tie.Need-returns
 returns c =
-    let a = c .before .before .args in
     let e = c .before .check-list .ensures in (
-      e ∙ sym (list-form-refused (jobAt (a .nodes) (a .edges) (a .end1 .now) (a .end2 .now) (a .cost .now) (a .mark .now)) (λ z. c .if1 .taken (e ∙ z))),
+      e ∙ sym (list-form-refused (job-of (c .before .before)) (λ z. c .if1 .taken (e ∙ z))),
       λ z. absurd (c .if1 .taken z),
     )
 

@@ -55,8 +55,7 @@ returns-3 c =
           (q .question6 .result) (q .question6 .ensures .0) yes,
       λ j k _.
           tree-held k (t .tree-ranks .result) (t .tree-ranks .last .1 .1 .1 .0) (e .0) (e .1 .0) (e .1 .1) (q .before .before .before .if1 .left)
-          (q .question6 .last .1 .1 .1 .1 .1 .0)
-          (q .question6 .ensures .1 yes),
+          (q .question6 .result) (q .question6 .ensures .0) yes (q .question6 .last .1 .1 .1 .1 .1 .0) (q .question6 .ensures .1 yes),
     )
 
 pub tree-refusal-spec : {M : Type 1} → statement M

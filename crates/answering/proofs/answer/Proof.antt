@@ -1,4 +1,5 @@
 -- `answering::answer` meets its contract: the frame is asked the six questions, and its job answered. Assumes nothing.
+use Rattle.frame.specs.Arrays.{arrays}
 use Rattle.accept.specs.Accepting.{Asked}
 use borrow.Author.Needs.{needs}
 use Rattle.answering.proofs.answer.Statement.{statement}
@@ -7,8 +8,8 @@ use Rattle.answering.proofs.answer.Tie as tie
 asked :
     (t : tie.After-accept) →
     let l = t .accept .last .1 in
-    Asked (t .before .before .before .before .before .before .before .before .before .args .frame .now) (t .accept .result) (l .0) (l .1 .0) (l .1 .1 .0)
-    (l .1 .1 .1 .0) (l .1 .1 .1 .1 .0) (l .1 .1 .1 .1 .1 .0)
+    Asked (t .before .before .before .before .before .before .before .before .before .args .frame .now) (t .accept .result)
+    (arrays (l .0) (l .1 .0) (l .1 .1 .0) (l .1 .1 .1 .0) (l .1 .1 .1 .1 .0) (l .1 .1 .1 .1 .1 .0))
 asked t =
     record {
       bytes = λ i. t .before .before .before .before .before .before .before .before .shared-slice-known .given i .fits;
@@ -20,7 +21,7 @@ accept-requires : tie.Need-accept-requires
 accept-requires c κs = search needs
 
 answer-held-requires : tie.Need-answer-held-requires
-answer-held-requires c κs = λ _. (_, asked (c .before .before .before .before .before .before .before))
+answer-held-requires c κs = λ z. (_, asked (c .before .before .before .before .before .before .before) .held z)
 
 same-length : tie.Need-same-length
 same-length c = search needs

@@ -7,7 +7,8 @@ use Rattle.frame.specs.Answers.{answerOf}
 use Rattle.frame.specs.AnswerMeaning.{answerFrame}
 use Rattle.frame.specs.Services.{written}
 use Rattle.codec.specs.WritingLaws.{put-refused}
-use Rattle.accept.specs.AskedLaws.{asked-number, asked-accepted, asked-nodes, asked-edges, few-links}
+use Rattle.held.specs.HeldLaws.{few-links}
+use Rattle.accept.specs.AskedLaws.{asked-number}
 use Rattle.answering.specs.AnswerLaws.{answered-of}
 use borrow.Author.Needs.{needs}
 use Rattle.answering.proofs.answer_held.Statement.{statement}
@@ -30,25 +31,13 @@ cast-edges c = search needs
 solve-requires : tie.Need-solve-requires
 solve-requires c κs =
     let e = c .before .before .before .before .before .before in
-    let z = e .if1 .left in
-    let (s, k) = e .before .before .pre z in
-    record {
-      job = jobOf s;
-      held = k .held z;
-      accepted = asked-accepted k z;
-      nodes-are = asked-nodes k z;
-      edges-are = asked-edges k z;
-      empty = refl;
-      places = refl;
-    }
+    (e .before .before .pre (e .if1 .left), (refl, refl))
 
 write-answer-requires : tie.Need-write-answer-requires
 write-answer-requires c κs =
     let v = c .before .before .before in
     let e = v .before .before .before .before .before .before .before in
-    let z = e .if1 .left in
-    let (s, k) = e .before .before .pre z in
-    λ _. (few-links k z, v .solve .ensures .few)
+    λ _. (few-links (e .before .before .pre (e .if1 .left) .1), v .solve .ensures .0)
 
 same-length : tie.Need-same-length
 same-length c = search needs
@@ -61,7 +50,7 @@ returns-2 c =
     let a = e .before .before .args in
     let z = e .if1 .left in (
       λ s k.
-          let is = v .solve .ensures .answer (jobOf s) (k .held z) (asked-accepted k z) (asked-nodes k z) (asked-edges k z) in
+          let is = v .solve .ensures .1 (jobOf s) (k .held z) in
           answered-of s (a .area .now) (k .bytes) _ _
           (w .write-answer .ensures ∙ (λ i. written ((sym (asked-number k ∙ z)) i) (answerFrame (is i)) 0 (a .area .now))),
       λ n. absurd (n z),

@@ -2,8 +2,8 @@
 use borrow.Author.Needs.{needs}
 use Rattle.certify.proofs.certify.Statement.{statement}
 use Rattle.certify.proofs.certify.Tie as tie
-use Prim.Native.Nat.{ℕ}
-use mathlib.Core.Path.{_≡_, sym, ap, _∙_}
+use Prim.Native.Nat.{ℕ, _-_}
+use mathlib.Core.Path.{_≡_, refl, sym, ap, _∙_}
 use mathlib.Core.Bool.{Bool, true}
 use mathlib.Core.List.{List}
 use lib.Dec.{eqb}
@@ -16,7 +16,10 @@ use Rattle.paths.specs.Arrays.{arrayGraph, arrayTree, arrayCost}
 use Rattle.frame.specs.Job.{Job}
 use Rattle.frame.specs.Answers.{judgeAnswer}
 use Rattle.pairing.specs.Pairs.{pairsHeld, pairRises, fall}
-use Rattle.certify.specs.Judging.{JobIn}
+use Rattle.frame.specs.Arrays.{Arrays, arrays}
+use Rattle.held.specs.Held.{Held}
+use Rattle.held.specs.HeldLaws.{some-node, few-links, paths-held}
+use Rattle.certify.specs.JudgedLaws.{judged-held}
 use Rattle.pairing.specs.PairLaws.{held-falling}
 use Rattle.certify.specs.JudgeLaws.{fiveTests, verdict-unread, verdict-read, verdict-steps, verdict-costs, verdict-pairs, verdict-order, verdict-weight}
 
@@ -30,11 +33,12 @@ costs-of r = r .load-answer .last .1 .1 .0
 abbrev pairs-of : tie.After-load-answer → List ℕ
 pairs-of r = r .load-answer .last .1 .1 .1 .0
 
--- the job stands in the arrays
+-- the arrays, and the job that they hold
+abbrev arrays-of : tie.Start → Arrays
+arrays-of s = let a = s .args in arrays (a .end1 .now) (a .end2 .now) (a .cost .now) (a .mark .now) (a .ts .now) (a .mask .now)
+
 abbrev Here : tie.Start → Job → Type 0
-Here s j =
-    let a = s .args in
-    JobIn j (a .edges) (a .trees) (a .ts .now) (a .end1 .now) (a .end2 .now) (a .cost .now) (a .mark .now) (a .mask .now)
+Here s j = Held j (s .args .nodes) (s .args .edges) (arrays-of s)
 
 -- the tests: steps, new costs, pairs, their order, their weight
 abbrev steps-at : tie.After-load-answer → ℕ
@@ -42,16 +46,16 @@ steps-at r =
     let a = start-of r .args in
     sum (a .edges) (λ e. gap (getD (costs-of r) e 0) (getD (a .cost .now) e 0))
 
-abbrev cheapest-at : tie.After-load-answer → Job → Bool
-cheapest-at r j =
+abbrev cheapest-at : tie.After-load-answer → Bool
+cheapest-at r =
     let a = start-of r .args in
-    judge (arrayGraph (j .nodes) (a .edges) (a .end1 .now) (a .end2 .now)) (arrayTree (a .mark .now)) (arrayCost (costs-of r)) (take (a .trees) (a .ts .now))
+    judge (arrayGraph (a .nodes) (a .edges) (a .end1 .now) (a .end2 .now)) (arrayTree (a .mark .now)) (arrayCost (costs-of r))
+    (take (a .nodes - 1) (a .ts .now))
 
 abbrev held-at : tie.After-load-answer → Bool
 held-at r =
-    let a = start-of r .args in
-    pairsHeld (a .edges) (a .trees) (a .ts .now) (a .end1 .now) (a .end2 .now) (a .cost .now) (a .mark .now) (a .mask .now) (r .load-answer .result .count)
-    (pairs-of r)
+    let s = start-of r in
+    pairsHeld (s .args .edges) (s .args .nodes - 1) (arrays-of s) (r .load-answer .result .count) (pairs-of r)
 
 abbrev rise-at : tie.After-load-answer → Bool
 rise-at r = allBelow (r .load-answer .result .count) (pairRises (pairs-of r))
@@ -66,13 +70,13 @@ read-of e = e .before .before
 judged :
     (e : tie.Else1) (j : Job) → Here (start-of (read-of e)) j
     → judgeAnswer j (start-of (read-of e) .args .frame .now)
-    ≡ fiveTests (read-of e .load-answer .result .steps) (steps-at (read-of e)) (cheapest-at (read-of e) j) (held-at (read-of e)) (rise-at (read-of e))
+    ≡ fiveTests (read-of e .load-answer .result .steps) (steps-at (read-of e)) (cheapest-at (read-of e)) (held-at (read-of e)) (rise-at (read-of e))
     (weight-at (read-of e))
 judged e j h =
     let r = read-of e in
     let s = start-of r in
     let a = s .args in
-    verdict-read j (a .edges) (a .trees) (a .ts .now) (a .end1 .now) (a .end2 .now) (a .cost .now) (a .mark .now) (a .mask .now) (s .pre) h
+    verdict-read j (a .nodes) (a .edges) (arrays-of s) h
     (a .frame .now) (r .load-answer .result) (costs-of r) (pairs-of r) (r .load-answer .ensures .0) (not-false _ (e .if1 .left))
 
 -- the tests that have passed
@@ -85,8 +89,8 @@ steps-pass e = sym (e .before .steps .ensures) ∙ e .if2 .left
 costs-pass :
     (e : tie.Else3) (j : Job) →
     Here (start-of (read-of (first-of (e .before .before .before)))) j →
-    cheapest-at (read-of (first-of (e .before .before .before))) j ≡ true
-costs-pass e j h = sym (e .before .judge .ensures (j .nodes) (h .paths)) ∙ not-false _ (e .if3 .left)
+    cheapest-at (read-of (first-of (e .before .before .before))) ≡ true
+costs-pass e j h = sym (e .before .judge .ensures _ (paths-held h)) ∙ not-false _ (e .if3 .left)
 
 abbrev second-of : tie.Else4 → tie.Else2
 second-of e = e .before .before .before .before .before .before
@@ -97,22 +101,25 @@ pairs-pass e = sym (e .before .pairs-hold .ensures) ∙ not-false _ (e .if4 .lef
 order-pass : (e : tie.Else5) → rise-at (read-of (first-of (second-of (e .before .before .before)))) ≡ true
 order-pass e = sym (e .before .pairs-rise .ensures) ∙ not-false _ (e .if5 .left)
 
+sub-trees : tie.Need-sub-trees
+sub-trees c = some-node (c .before .pre .1)
+
 load-answer-requires : tie.Need-load-answer-requires
-load-answer-requires c κs = search needs
+load-answer-requires c κs = (few-links (c .before .before .before .pre .1), record { costs = refl; pairs = refl })
 
 returns : tie.Need-returns
 returns c = λ j h.
     let r = c .before .before in
     let s = start-of r in
     let a = s .args in
-    sym (verdict-unread j (a .edges) (a .trees) (a .ts .now) (a .end1 .now) (a .end2 .now) (a .cost .now) (a .mark .now) (a .mask .now) (s .pre) h
+    sym (verdict-unread j (a .nodes) (a .edges) (arrays-of s) h
     (a .frame .now) (r .load-answer .result) (costs-of r) (pairs-of r) (r .load-answer .ensures .0) (not-true _ (c .if1 .taken)))
 
 cast-steps : tie.Need-cast-steps
 cast-steps c = search needs
 
 steps-requires : tie.Need-steps-requires
-steps-requires c κs = search needs
+steps-requires c κs = few-links (c .before .before .before .before .before .before .before .before .pre .1)
 
 returns-2 : tie.Need-returns-2
 returns-2 c = λ j h.
@@ -120,16 +127,16 @@ returns-2 c = λ j h.
     sym (judged (k .before .before .before) j h ∙ verdict-steps _ _ _ _ _ _ (λ q. c .if2 .taken (k .steps .ensures ∙ q)))
 
 judge-requires : tie.Need-judge-requires
-judge-requires c κs = search needs
+judge-requires c κs = judged-held (c .before .before .before .before .before .before .before .before .before .before .before .pre .1)
 
 returns-3 : tie.Need-returns-3
 returns-3 c = λ j h.
     let m = c .before in
     let e₂ = m .before .before in
-    sym (judged (first-of e₂) j h ∙ verdict-costs _ _ _ _ _ _ (steps-pass e₂) (sym (m .judge .ensures (j .nodes) (h .paths)) ∙ not-true _ (c .if3 .taken)))
+    sym (judged (first-of e₂) j h ∙ verdict-costs _ _ _ _ _ _ (steps-pass e₂) (sym (m .judge .ensures _ (paths-held h)) ∙ not-true _ (c .if3 .taken)))
 
 pairs-hold-requires : tie.Need-pairs-hold-requires
-pairs-hold-requires c κs = search needs
+pairs-hold-requires c κs = (c .before .before .before .before .before .before .before .before .before .before .load-answer .ensures .1 .0, judged-held (c .before .before .before .before .before .before .before .before .before .before .before .before .before .before .pre .1))
 
 returns-4 : tie.Need-returns-4
 returns-4 c = λ j h.
@@ -155,8 +162,7 @@ pairs-weight-requires c κs =
     let r = read-of (first-of (second-of e₄)) in
     let s = start-of r in
     let a = s .args in
-    held-falling (a .edges) (a .trees) (a .ts .now) (a .end1 .now) (a .end2 .now) (a .cost .now) (a .mark .now) (a .mask .now) (r .load-answer .result .count)
-    (pairs-of r) (s .pre .judged .links) (r .load-answer .ensures .1 .0) (pairs-pass e₄)
+    held-falling (a .edges) (a .nodes - 1) (arrays-of s) (r .load-answer .result .count) (pairs-of r) (few-links (s .pre .1)) (r .load-answer .ensures .1 .0) (pairs-pass e₄)
 
 returns-6 : tie.Need-returns-6
 returns-6 c = λ j h.
@@ -170,6 +176,7 @@ pub certify-spec : {M : Type 1} → statement M
 certify-spec =
     tie.close
     (tie.spec
+    sub-trees
     load-answer-requires
     returns
     cast-steps

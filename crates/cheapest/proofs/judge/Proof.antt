@@ -1,10 +1,11 @@
 -- `cheapest::judge` meets its contract: the ranks that cost no more than any lower one are found first. Assumes nothing.
+use native.Mathlib.Omega.{arith}
 use Rattle.cheapest.specs.LeadLaws.{falls-word}
 use Rattle.cheapest.proofs.judge.Statement.{statement}
 use Rattle.cheapest.proofs.judge.Tie as tie
 
 falling-ranks-requires : tie.Need-falling-ranks-requires
-falling-ranks-requires c κs = record { few = c .pre .few; edge = c .pre .edge }
+falling-ranks-requires c κs = record { few = omega (arith, c .pre .few); edge = c .pre .edge }
 
 judge-ranked-requires : tie.Need-judge-ranked-requires
 judge-ranked-requires c κs =

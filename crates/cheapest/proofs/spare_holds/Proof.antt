@@ -11,9 +11,10 @@ use Rattle.loops.specs.Below.{allBelow}
 use Rattle.loops.specs.Loop.{first}
 use Rattle.loops.specs.TestLaws.{and-first}
 use Rattle.bits.specs.Bit.{bit}
+use Rattle.graph.specs.Rank.{costAt}
 use Rattle.paths.specs.Arrays.{across}
 use Rattle.paths.specs.WordLaws.{lowest-below, lowest-set, word-part, word-less}
-use Rattle.cheapest.specs.Judge.{rankCost, affords}
+use Rattle.cheapest.specs.Judge.{affords}
 use Rattle.cheapest.specs.LeadLaws.{lead-tells}
 use Rattle.cheapest.specs.JudgeLaws.{wordHolds, word-miss, word-turn, word-end}
 use Rattle.cheapest.proofs.spare_holds.Statement.{statement}
@@ -21,7 +22,7 @@ use Rattle.cheapest.proofs.spare_holds.Tie as tie
 
 abbrev Inv-loop : tie.InvT-loop
 Inv-loop falling ranks end1 end2 cost mask s limit a b word left₀ left =
-    (wordHolds (λ k. leb (rankCost ranks cost k) limit) left ≡ allBelow 64 (λ k. not (across mask a b k) || leb (rankCost ranks cost k) limit)) ×
+    (wordHolds (λ k. leb (costAt cost ranks k) limit) left ≡ allBelow 64 (λ k. not (across mask a b k) || leb (costAt cost ranks k) limit)) ×
     (left < 2 ^ 64) ×
     ((k : ℕ) → bit left k ≡ true → getD ranks k 0 < 256)
 

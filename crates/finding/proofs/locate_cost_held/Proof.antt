@@ -7,7 +7,7 @@ use denote.Enum.Declared
 use Rattle.number.specs.Number.{Bytes}
 use Rattle.judging.specs.declared.Verdict.the-variants.{Yes}
 use Rattle.judging.proofs.Verdict.{the-type}
-use Rattle.accept.specs.AskedLaws.{asked-number, asked-edges}
+use Rattle.accept.specs.AskedLaws.{asked-number, asked-edges, held-asked}
 use Rattle.judging.specs.VerdictLaws.{yes-accepted}
 use Rattle.finding.specs.PartLaws.{cost-unlinked, cost-unjudged, cost-in, cost-handed}
 use borrow.Author.Needs.{needs}
@@ -60,7 +60,7 @@ cost-part-requires c κs =
     let t = j .before .before in
     let a = t .before .before .args in
     let z = accepted c in
-    let (s, k) = t .before .before .pre z in
+    let (s, k) = held-asked (t .before .before .pre) z in
     cost-in s (a .offered .now) (k .bytes) (bytes t) (a .edge .0) (omega (arith, j .before .if1 .left, asked-edges k z)) _
     (j .judge-answer-held .ensures .0 s k) (c .enum-told .given .1)
 

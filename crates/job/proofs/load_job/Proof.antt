@@ -9,7 +9,8 @@ use lib.ListN.{length, take, drop, length-drop}
 use lib.Seq.{take-all}
 use Rattle.frame.specs.Questions.{jobOf, question4, question5}
 use Rattle.job.specs.declared.Header.{Header}
-use Rattle.job.specs.Reading.{LinksLoaded, arrays, filled}
+use Rattle.frame.specs.Arrays.{Columns, columns}
+use Rattle.job.specs.Reading.{LinksLoaded, loaded, filled}
 use Rattle.links.specs.Columns.{endsHold, marksHold}
 use Rattle.job.specs.FormLaws.{CountsPassed, counts-passed, counts-refused, links-left, links-read, ends-read, marks-read, ends-refused, marks-refused, form-passed}
 use Rattle.job.proofs.load_job.Statement.{statement}
@@ -33,18 +34,18 @@ behind-counts k =
     take-all (length s - from) (drop from s) (omega (arith, length-drop from s))
 
 -- the links are in their arrays
-loaded :
+filled-in :
     (k : tie.After-read-links) →
     let a = k .before .before .before .before .before .before .before .before .before .before .args in
     let l = k .read-links .last .1 .1 in
-    arrays 0 (l .0) (l .1 .0) (l .1 .1 .0) (l .1 .1 .1 .0) ≡ filled (jobOf (a .frame .now) .links) 0 0
-    (arrays 0 (a .end1 .now) (a .end2 .now) (a .cost .now) (a .mark .now))
-loaded k =
+    columns (l .0) (l .1 .0) (l .1 .1 .0) (l .1 .1 .1 .0) ≡ filled (jobOf (a .frame .now) .links) 0
+    (columns (a .end1 .now) (a .end2 .now) (a .cost .now) (a .mark .now))
+filled-in k =
     let e = k .before .before .before .before .before .before .before in
     let a = e .before .before .before .args in
-    ap (λ (l : LinksLoaded). arrays 0 (l .end₁) (l .end₂) (l .cost) (l .mark))
+    ap (λ (l : LinksLoaded). l .links)
     (k .read-links .ensures ∙ links-read (a .frame .now) (e .before .read-counts .result) (passing e) _ (behind-counts e)
-    (arrays 0 (a .end1 .now) (a .end2 .now) (a .cost .now) (a .mark .now)) refl)
+    (loaded 0 (columns (a .end1 .now) (a .end2 .now) (a .cost .now) (a .mark .now))) refl)
 
 -- question 4, as it was put over the arrays
 ends-answer :
@@ -57,7 +58,7 @@ ends-answer k =
     let a = e .before .before .before .args in
     let c = e .before .read-counts .result in
     k .ends-hold .ensures ∙
-    ap₂ (endsHold (c .nodes) (c .edges)) (ap (λ (l : LinksLoaded). l .end₁) (loaded r)) (ap (λ (l : LinksLoaded). l .end₂) (loaded r)) ∙
+    ap₂ (endsHold (c .nodes) (c .edges)) (ap (λ (c : Columns). c .end₁) (filled-in r)) (ap (λ (c : Columns). c .end₂) (filled-in r)) ∙
     ends-read (a .frame .now) c (passing e) (a .end1 .now) (a .end2 .now) (e .before .before .before .pre .end₁) (e .before .before .before .pre .end₂)
 
 -- question 5
@@ -71,7 +72,7 @@ marks-answer k =
     let a = e .before .before .before .args in
     let c = e .before .read-counts .result in
     k .marks-hold .ensures ∙
-    ap (marksHold (c .edges)) (ap (λ (l : LinksLoaded). l .mark) (loaded r)) ∙
+    ap (marksHold (c .edges)) (ap (λ (c : Columns). c .mark) (filled-in r)) ∙
     marks-read (a .frame .now) c (passing e) (a .mark .now) (e .before .before .before .pre .mark)
 
 refused-nonzero : (n : ℕ) (h : Header) → h ≡ record { refusal = suc n; nodes = 0; edges = 0 } → h .refusal ≡ 0 → ⊥
@@ -149,7 +150,7 @@ returns-4 c =
     let yes₅ : m .marks-hold .result ≡ true = not-false _ (c .if3 .left) in (
       form-passed (e .before .before .before .args .frame .now) (e .before .read-counts .result) (passing e) (sym (ends-answer k) ∙ yes₄)
           (sym (marks-answer m) ∙ yes₅),
-      λ z. loaded r,
+      λ z. filled-in r,
     )
 
 pub load-job-spec : {M : Type 1} → statement M

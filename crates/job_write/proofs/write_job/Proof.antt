@@ -7,7 +7,7 @@ use native.Mathlib.Omega.{arith}
 use lib.ListN.{length}
 use lib.Seq.{sets}
 use Rattle.frame.specs.Job.{bytesOf, jobFrame}
-use Rattle.links.specs.Columns.{jobAt}
+use Rattle.frame.specs.Arrays.{columns, jobAt}
 use Rattle.codec.specs.Numbers.{numbersAt}
 use Rattle.codec.specs.WritingLaws.{put-refused, put-short, put-whole}
 use borrow.Author.Needs.{needs}
@@ -16,7 +16,7 @@ use Rattle.job_write.proofs.write_job.Tie as tie
 
 -- the job's frame
 abbrev frame : tie.Start → List ℕ
-frame s = jobFrame (jobAt (s .args .nodes) (s .args .edges) (s .args .end1 .now) (s .args .end2 .now) (s .args .cost .now) (s .args .mark .now))
+frame s = jobFrame (jobAt (s .args .nodes) (s .args .edges) (columns (s .args .end1 .now) (s .args .end2 .now) (s .args .cost .now) (s .args .mark .now)))
 
 abbrev start : tie.After-list-numbers → tie.Start
 start k = k .before .before .before .before

@@ -1,14 +1,12 @@
 -- `judging::judge_answer_held` meets its contract: an accepted job's arrays are what the judge of
 -- answers asks for, and the word is the definition's. Assumes nothing.
-use native.Mathlib.Omega.{arith}
 use mathlib.Core.Path.{refl, sym, _∙_}
 use mathlib.Core.Bool.{true, false}
 use borrow.Author.Tests.{not-true, not-false}
 use Rattle.number.specs.Number.{Bytes}
 use Rattle.frame.specs.Questions.{jobOf, refusal}
 use Rattle.frame.specs.Answers.{judgeAnswer}
-use Rattle.accept.specs.AskedLaws.{asked-number, some-node}
-use Rattle.judging.specs.JudgeLaws.{answer-asked, answer-word}
+use Rattle.accept.specs.AskedLaws.{asked-number}
 use Rattle.judging.specs.VerdictLaws.{answer-judged-of, verdict-refused, verdict-word}
 use borrow.Author.Needs.{needs}
 use Rattle.judging.proofs.judge_answer_held.Statement.{statement}
@@ -27,41 +25,29 @@ returns c = (
 cast-edges : tie.Need-cast-edges
 cast-edges c = search needs
 
-cast-count : tie.Need-cast-count
-cast-count c = search needs
-
-sub-count : tie.Need-sub-count
-sub-count c =
-    let e = c .before .before in
-    let (s, k) = e .before .before .pre (e .if1 .left) in
-    omega (arith, some-node k (e .if1 .left))
-
 certify-requires : tie.Need-certify-requires
-certify-requires c κs =
-    let e = c .before .before in
-    let (s, k) = e .before .before .pre (e .if1 .left) in
-    answer-asked k (e .if1 .left)
+certify-requires c κs = let e = c .before in e .before .before .pre (e .if1 .left)
 
 returns-2 : tie.Need-returns-2
 returns-2 c =
-    let e = c .before .before .before .before in
+    let e = c .before .before .before in
     let z = e .if1 .left in (
       λ s k. answer-judged-of s (k .bytes) _ (bytes (e .before)) _
           (verdict-word (refusal s) (judgeAnswer (jobOf s) _) false (asked-number k ∙ z)
-          (sym (not-true _ (c .if2 .taken)) ∙ answer-word k z _ _ (c .before .certify .ensures))),
+          (sym (not-true _ (c .if2 .taken)) ∙ c .before .certify .ensures _ (k .held z))),
       λ n. absurd (n z),
     )
 
 returns-3 : tie.Need-returns-3
 returns-3 c =
-    let e = c .before .before .before .before in
+    let e = c .before .before .before in
     let z = e .if1 .left in (
       λ s k. answer-judged-of s (k .bytes) _ (bytes (e .before)) _
           (verdict-word (refusal s) (judgeAnswer (jobOf s) _) true (asked-number k ∙ z)
-          (sym (not-false _ (c .if2 .left)) ∙ answer-word k z _ _ (c .before .certify .ensures))),
+          (sym (not-false _ (c .if2 .left)) ∙ c .before .certify .ensures _ (k .held z))),
       λ n. absurd (n z),
     )
 
 pub judge-answer-held-spec : {M : Type 1} → statement M
 judge-answer-held-spec =
-    tie.close (tie.spec returns cast-edges cast-count sub-count certify-requires returns-2 returns-3)
+    tie.close (tie.spec returns cast-edges certify-requires returns-2 returns-3)

@@ -1,12 +1,12 @@
 -- `judging::judge_held` meets its contract: an accepted job's arrays are judged, and the word is the definition's.
 -- Assumes nothing.
-use native.Mathlib.Omega.{arith}
 use mathlib.Core.Path.{refl, sym, _∙_}
 use mathlib.Core.Bool.{true, false}
 use Rattle.frame.specs.Questions.{jobOf, refusal}
 use Rattle.frame.specs.Answers.{judgeTree}
-use Rattle.accept.specs.AskedLaws.{asked-number, some-node}
-use Rattle.judging.specs.JudgeLaws.{tree-asked, tree-falling, tree-word}
+use Rattle.held.specs.HeldLaws.{some-node, paths-held}
+use Rattle.certify.specs.JudgedLaws.{judged-held, falls-held, judge-held}
+use Rattle.accept.specs.AskedLaws.{asked-number}
 use Rattle.judging.specs.VerdictLaws.{tree-judged-of, verdict-refused, verdict-word}
 use borrow.Author.Needs.{needs}
 use Rattle.judging.proofs.judge_held.Statement.{statement}
@@ -27,21 +27,20 @@ cast-count c = search needs
 sub-count : tie.Need-sub-count
 sub-count c =
     let e = c .before .before in
-    let (s, k) = e .before .pre (e .if1 .left) in
-    omega (arith, some-node k (e .if1 .left))
+    some-node (e .before .pre (e .if1 .left) .1)
 
 judge-ranked-requires : tie.Need-judge-ranked-requires
 judge-ranked-requires c κs =
     let e = c .before .before in
-    let (s, k) = e .before .pre (e .if1 .left) in
-    (tree-asked k (e .if1 .left), tree-falling k (e .if1 .left) _)
+    let (j, h) = e .before .pre (e .if1 .left) in
+    (judged-held h, falls-held h _)
 
 returns-2 : tie.Need-returns-2
 returns-2 c =
     let e = c .before .before .before .before in
     let z = e .if1 .left in (
       λ s k. tree-judged-of s (k .bytes) _ (verdict-word (refusal s) (judgeTree (jobOf s)) true (asked-number k ∙ z)
-          (sym (c .if2 .taken) ∙ tree-word k z _ (c .before .judge-ranked .ensures))),
+          (sym (c .if2 .taken) ∙ c .before .judge-ranked .ensures _ (paths-held (k .held z)) ∙ judge-held (k .held z))),
       λ n. absurd (n z),
     )
 
@@ -50,7 +49,7 @@ returns-3 c =
     let e = c .before .before .before .before in
     let z = e .if1 .left in (
       λ s k. tree-judged-of s (k .bytes) _ (verdict-word (refusal s) (judgeTree (jobOf s)) false (asked-number k ∙ z)
-          (sym (c .if2 .left) ∙ tree-word k z _ (c .before .judge-ranked .ensures))),
+          (sym (c .if2 .left) ∙ c .before .judge-ranked .ensures _ (paths-held (k .held z)) ∙ judge-held (k .held z))),
       λ n. absurd (n z),
     )
 

@@ -1,12 +1,13 @@
 -- `links::links_small` meets its contract. The loop's invariant: the question holds of the links passed.
 -- Assumes nothing.
-use Prim.Native.Nat.{_-_, _≤_}
+use Prim.Native.Nat.{ℕ, _-_, _≤_}
 use mathlib.Core.Path.{_≡_, refl, sym}
-use mathlib.Core.Bool.{true}
+use mathlib.Core.Bool.{Bool, true}
 use native.Mathlib.Omega.{arith}
-use lib.ListN.{getD}
 use Rattle.loops.specs.Below.{allBelow}
 use Rattle.loops.specs.TestLaws.{all-miss, all-more}
+use Rattle.frame.specs.Job.{JobLink}
+use Rattle.frame.specs.Arrays.{Columns, columns, linkAt}
 use Rattle.frame.specs.Services.{smallNumbers}
 use Rattle.links.specs.Columns.{linksSmall}
 use Rattle.links.specs.ListLaws.{large-first, large-second, large-third, large-mark, small-holds}
@@ -14,10 +15,20 @@ use Rattle.links.proofs.links_small.Statement.{statement}
 use Rattle.links.proofs.links_small.Tie as tie
 
 abbrev Inv-loop : tie.InvT-loop
-Inv-loop edges end1 end2 cost mark e₀ e = (e ≤ edges) × (linksSmall e end1 end2 cost mark ≡ true)
+Inv-loop edges end1 end2 cost mark e₀ e = (e ≤ edges) × (linksSmall e (columns end1 end2 cost mark) ≡ true)
 
 abbrev μ-loop : tie.MeasureT-loop
 μ-loop edges end1 end2 cost mark e₀ e = edges - e
+
+-- the arrays of a turn, the question of a link, and the link of the turn
+abbrev held : tie.At-loop Inv-loop μ-loop → Columns
+held l = let a = l .before .args in columns (a .end1 .now) (a .end2 .now) (a .cost .now) (a .mark .now)
+
+abbrev smallAt : tie.At-loop Inv-loop μ-loop → ℕ → Bool
+smallAt l e = smallNumbers (linkAt (held l) e)
+
+abbrev turnLink : tie.At-loop Inv-loop μ-loop → JobLink
+turnLink l = linkAt (held l) (l .loop .e)
 
 loop-holds : tie.Need-loop-holds Inv-loop μ-loop
 unfolding allBelow
@@ -33,15 +44,8 @@ returns : tie.Need-returns Inv-loop μ-loop
 returns c =
     let l = c .before .before .before in
     let a = l .before .args in
-    sym (all-miss (a .edges) (λ e. smallNumbers
-    (record {
-      end₁ = getD (a .end1 .now) e 0;
-      end₂ = getD (a .end2 .now) e 0;
-      cost = getD (a .cost .now) e 0;
-      mark = getD (a .mark .now) e 0;
-    })) (l .loop .e) (c .before .before .loop-test .taken)
-    (large-first (getD (a .end1 .now) (l .loop .e) 0) (getD (a .end2 .now) (l .loop .e) 0) (getD (a .cost .now) (l .loop .e) 0)
-    (getD (a .mark .now) (l .loop .e) 0) (c .if1 .taken)))
+    sym (all-miss (a .edges) (smallAt l) (l .loop .e) (c .before .before .loop-test .taken)
+    (large-first (turnLink l) (c .if1 .taken)))
 
 mul-if2 : tie.Need-mul-if2 Inv-loop μ-loop
 mul-if2 c = omega arith
@@ -53,15 +57,8 @@ returns-2 : tie.Need-returns-2 Inv-loop μ-loop
 returns-2 c =
     let l = c .before .before .before .before .before in
     let a = l .before .args in
-    sym (all-miss (a .edges) (λ e. smallNumbers
-    (record {
-      end₁ = getD (a .end1 .now) e 0;
-      end₂ = getD (a .end2 .now) e 0;
-      cost = getD (a .cost .now) e 0;
-      mark = getD (a .mark .now) e 0;
-    })) (l .loop .e) (c .before .before .before .before .loop-test .taken)
-    (large-second (getD (a .end1 .now) (l .loop .e) 0) (getD (a .end2 .now) (l .loop .e) 0) (getD (a .cost .now) (l .loop .e) 0)
-    (getD (a .mark .now) (l .loop .e) 0) (c .before .before .if1 .left) (c .if2 .taken)))
+    sym (all-miss (a .edges) (smallAt l) (l .loop .e) (c .before .before .before .before .loop-test .taken)
+    (large-second (turnLink l) (c .before .before .if1 .left) (c .if2 .taken)))
 
 mul-if3 : tie.Need-mul-if3 Inv-loop μ-loop
 mul-if3 c = omega arith
@@ -73,15 +70,8 @@ returns-3 : tie.Need-returns-3 Inv-loop μ-loop
 returns-3 c =
     let l = c .before .before .before .before .before .before .before in
     let a = l .before .args in
-    sym (all-miss (a .edges) (λ e. smallNumbers
-    (record {
-      end₁ = getD (a .end1 .now) e 0;
-      end₂ = getD (a .end2 .now) e 0;
-      cost = getD (a .cost .now) e 0;
-      mark = getD (a .mark .now) e 0;
-    })) (l .loop .e) (c .before .before .before .before .before .before .loop-test .taken)
-    (large-third (getD (a .end1 .now) (l .loop .e) 0) (getD (a .end2 .now) (l .loop .e) 0) (getD (a .cost .now) (l .loop .e) 0)
-    (getD (a .mark .now) (l .loop .e) 0) (c .before .before .before .before .if1 .left) (c .before .before .if2 .left) (omega (arith, c .if3 .taken))))
+    sym (all-miss (a .edges) (smallAt l) (l .loop .e) (c .before .before .before .before .before .before .loop-test .taken)
+    (large-third (turnLink l) (c .before .before .before .before .if1 .left) (c .before .before .if2 .left) (omega (arith, c .if3 .taken))))
 
 mul-if4 : tie.Need-mul-if4 Inv-loop μ-loop
 mul-if4 c = omega arith
@@ -94,15 +84,8 @@ loop-again c =
     let l = c .before .before .before .before .before .before .before .before .before in
     let a = l .before .args in (
       omega arith,
-      all-more (l .loop .e) (λ e. smallNumbers
-          (record {
-            end₁ = getD (a .end1 .now) e 0;
-            end₂ = getD (a .end2 .now) e 0;
-            cost = getD (a .cost .now) e 0;
-            mark = getD (a .mark .now) e 0;
-          })) (l .loop .inv .1)
-          (small-holds (getD (a .end1 .now) (l .loop .e) 0) (getD (a .end2 .now) (l .loop .e) 0) (getD (a .cost .now) (l .loop .e) 0)
-          (getD (a .mark .now) (l .loop .e) 0) (c .before .before .before .before .before .before .if1 .left)
+      all-more (l .loop .e) (smallAt l) (l .loop .inv .1)
+          (small-holds (turnLink l) (c .before .before .before .before .before .before .if1 .left)
           (c .before .before .before .before .if2 .left) (c .before .before .if3 .left) (c .if4 .left)),
     )
 
@@ -110,15 +93,8 @@ returns-4 : tie.Need-returns-4 Inv-loop μ-loop
 returns-4 c =
     let l = c .before .before .before .before .before .before .before .before .before in
     let a = l .before .args in
-    sym (all-miss (a .edges) (λ e. smallNumbers
-    (record {
-      end₁ = getD (a .end1 .now) e 0;
-      end₂ = getD (a .end2 .now) e 0;
-      cost = getD (a .cost .now) e 0;
-      mark = getD (a .mark .now) e 0;
-    })) (l .loop .e) (c .before .before .before .before .before .before .before .before .loop-test .taken)
-    (large-mark (getD (a .end1 .now) (l .loop .e) 0) (getD (a .end2 .now) (l .loop .e) 0) (getD (a .cost .now) (l .loop .e) 0)
-    (getD (a .mark .now) (l .loop .e) 0) (c .before .before .before .before .before .before .if1 .left) (c .before .before .before .before .if2 .left)
+    sym (all-miss (a .edges) (smallAt l) (l .loop .e) (c .before .before .before .before .before .before .before .before .loop-test .taken)
+    (large-mark (turnLink l) (c .before .before .before .before .before .before .if1 .left) (c .before .before .before .before .if2 .left)
     (c .before .before .if3 .left) (c .if4 .taken)))
 
 add-e : tie.Need-add-e Inv-loop μ-loop

@@ -1,5 +1,4 @@
 -- `lists::answer_links` meets its contract: the list is asked the six questions as its frame would be. Assumes nothing.
-use Rattle.accept.specs.ListAskedLaws.{some-asked}
 use Rattle.lists.specs.ListServiceLaws.{given-answered}
 use borrow.Author.Needs.{needs}
 use Rattle.lists.proofs.answer_links.Statement.{statement}
@@ -9,7 +8,7 @@ accept-links-requires : tie.Need-accept-links-requires
 accept-links-requires c κs = search needs
 
 answer-held-requires : tie.Need-answer-held-requires
-answer-held-requires c κs = some-asked (c .before .before .before .before .before .before .before .accept-links .ensures .1)
+answer-held-requires c κs = c .before .before .before .before .before .before .before .accept-links .ensures .1
 
 same-length : tie.Need-same-length
 same-length c = search needs

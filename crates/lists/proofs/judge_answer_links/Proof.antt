@@ -1,6 +1,5 @@
 -- `lists::judge_answer_links` meets its contract: the list is asked the six questions as its frame would be. Assumes nothing.
 use Rattle.judging.specs.Verdicts.{AnswerJudged}
-use Rattle.accept.specs.ListAskedLaws.{some-asked}
 use Rattle.lists.specs.ListServiceLaws.{given-judged}
 use borrow.Author.Needs.{needs}
 use Rattle.lists.proofs.judge_answer_links.Statement.{statement}
@@ -10,7 +9,7 @@ accept-links-requires : tie.Need-accept-links-requires
 accept-links-requires c κs = search needs
 
 judge-answer-held-requires : tie.Need-judge-answer-held-requires
-judge-answer-held-requires c κs = some-asked (c .before .before .before .before .before .before .accept-links .ensures .1)
+judge-answer-held-requires c κs = c .before .before .before .before .before .before .accept-links .ensures .1
 
 returns : tie.Need-returns
 returns c =

@@ -1,5 +1,4 @@
 -- `lists::locate_cost_links` meets its contract: the list is asked the six questions as its frame would be. Assumes nothing.
-use Rattle.accept.specs.ListAskedLaws.{some-asked}
 use Rattle.lists.specs.ListServiceLaws.{given-located}
 use borrow.Author.Needs.{needs}
 use Rattle.lists.proofs.locate_cost_links.Statement.{statement}
@@ -9,7 +8,7 @@ accept-links-requires : tie.Need-accept-links-requires
 accept-links-requires c κs = search needs
 
 locate-cost-held-requires : tie.Need-locate-cost-held-requires
-locate-cost-held-requires c κs = some-asked (c .before .before .before .before .before .before .accept-links .ensures .1)
+locate-cost-held-requires c κs = c .before .before .before .before .before .before .accept-links .ensures .1
 
 returns : tie.Need-returns
 returns c =

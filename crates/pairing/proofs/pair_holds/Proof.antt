@@ -5,7 +5,14 @@ use Rattle.pairing.proofs.pair_holds.Tie as tie
 use native.Mathlib.Omega.{arith}
 use mathlib.Core.Path.{sym}
 use borrow.Author.Tests.{not-true, not-false}
+use Rattle.frame.specs.Arrays.{Arrays, arrays}
 use Rattle.pairing.specs.PairLaws.{tree-past, tree-unmarked, spare-past, spare-marked, spare-apart, pair-dearer}
+
+-- the job in its arrays
+abbrev held : tie.Start → Arrays
+held t =
+    let a = t .args in
+    arrays (a .end1 .now) (a .end2 .now) (a .cost .now) (a .mark .now) (a .ts .now) (a .mask .now)
 
 cast-tree : tie.Need-cast-tree
 cast-tree c = search needs
@@ -15,8 +22,9 @@ cast-spare c = search needs
 
 returns : tie.Need-returns
 returns c =
-    let a = c .before .before .before .args in
-    sym (tree-past (a .edges) (a .trees) (a .ts .now) (a .end1 .now) (a .end2 .now) (a .cost .now) (a .mark .now) (a .mask .now) (a .t .0) (a .s .0)
+    let t = c .before .before .before in
+    let a = t .args in
+    sym (tree-past (a .edges) (a .trees) (held t) (a .t .0) (a .s .0)
     (c .if1 .taken))
 
 mul-if2 : tie.Need-mul-if2
@@ -28,15 +36,17 @@ element-copy-out-if2 c = search needs
 returns-2 : tie.Need-returns-2
 returns-2 c =
     let e₁ = c .before .before in
-    let a = e₁ .before .before .before .args in
-    sym (tree-unmarked (a .edges) (a .trees) (a .ts .now) (a .end1 .now) (a .end2 .now) (a .cost .now) (a .mark .now) (a .mask .now) (a .t .0) (a .s .0)
+    let t = e₁ .before .before .before in
+    let a = t .args in
+    sym (tree-unmarked (a .edges) (a .trees) (held t) (a .t .0) (a .s .0)
     (e₁ .if1 .left) (c .if2 .taken))
 
 returns-3 : tie.Need-returns-3
 returns-3 c =
     let e₁ = c .before .before .before in
-    let a = e₁ .before .before .before .args in
-    sym (spare-past (a .edges) (a .trees) (a .ts .now) (a .end1 .now) (a .end2 .now) (a .cost .now) (a .mark .now) (a .mask .now) (a .t .0) (a .s .0)
+    let t = e₁ .before .before .before in
+    let a = t .args in
+    sym (spare-past (a .edges) (a .trees) (held t) (a .t .0) (a .s .0)
     (e₁ .if1 .left) (c .before .if2 .left) (c .if3 .taken))
 
 mul-if4 : tie.Need-mul-if4
@@ -49,8 +59,9 @@ returns-4 : tie.Need-returns-4
 returns-4 c =
     let e₃ = c .before .before in
     let e₁ = e₃ .before .before .before in
-    let a = e₁ .before .before .before .args in
-    sym (spare-marked (a .edges) (a .trees) (a .ts .now) (a .end1 .now) (a .end2 .now) (a .cost .now) (a .mark .now) (a .mask .now) (a .t .0) (a .s .0)
+    let t = e₁ .before .before .before in
+    let a = t .args in
+    sym (spare-marked (a .edges) (a .trees) (held t) (a .t .0) (a .s .0)
     (e₁ .if1 .left) (e₃ .before .if2 .left) (e₃ .if3 .left) (c .if4 .taken))
 
 rank-of-requires : tie.Need-rank-of-requires
@@ -73,7 +84,7 @@ covers-requires c κs =
     let e₄ = c .before .before .before in
     let s = e₄ .before .before .before .before .before .before .before .before in
     let link = e₄ .before .before .if3 .left in
-    omega (arith, s .pre .judged .first (s .args .s .0) link, s .pre .judged .second (s .args .s .0) link, c .before .before .rank-of .ensures .1)
+    omega (arith, s .pre .first (s .args .s .0) link, s .pre .second (s .args .s .0) link, c .before .before .rank-of .ensures .1)
 
 returns-5 : tie.Need-returns-5
 returns-5 c =
@@ -81,8 +92,9 @@ returns-5 c =
     let e₄ = k .before in
     let e₃ = e₄ .before .before in
     let e₁ = e₃ .before .before .before in
-    let a = e₁ .before .before .before .args in
-    sym (spare-apart (a .edges) (a .trees) (a .ts .now) (a .end1 .now) (a .end2 .now) (a .cost .now) (a .mark .now) (a .mask .now) (a .t .0) (a .s .0)
+    let t = e₁ .before .before .before in
+    let a = t .args in
+    sym (spare-apart (a .edges) (a .trees) (held t) (a .t .0) (a .s .0)
     (e₁ .if1 .left) (e₃ .before .if2 .left) (e₃ .if3 .left) (e₄ .if4 .left)
     (k .rank-of .result .0) (k .rank-of .ensures .0) (c .before .covers .result) (c .before .covers .ensures) (not-true _ (c .if5 .taken)))
 
@@ -105,8 +117,9 @@ returns-6 c =
     let e₄ = k .before in
     let e₃ = e₄ .before .before in
     let e₁ = e₃ .before .before .before in
-    let a = e₁ .before .before .before .args in
-    pair-dearer (a .edges) (a .trees) (a .ts .now) (a .end1 .now) (a .end2 .now) (a .cost .now) (a .mark .now) (a .mask .now) (a .t .0) (a .s .0) (e₁ .if1 .left)
+    let t = e₁ .before .before .before in
+    let a = t .args in
+    pair-dearer (a .edges) (a .trees) (held t) (a .t .0) (a .s .0) (e₁ .if1 .left)
     (e₃ .before .if2 .left) (e₃ .if3 .left) (e₄ .if4 .left)
     (k .rank-of .result .0) (k .rank-of .ensures .0) (e₅ .before .covers .result) (e₅ .before .covers .ensures) (not-false _ (e₅ .if5 .left))
 

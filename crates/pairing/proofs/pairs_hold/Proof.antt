@@ -8,11 +8,12 @@ use mathlib.Core.Bool.{Bool, true}
 use borrow.Author.Tests.{not-true, not-false}
 use Rattle.loops.specs.Below.{allBelow}
 use Rattle.loops.specs.TestLaws.{all-miss, all-more}
+use Rattle.frame.specs.Arrays.{arrays}
 use Rattle.frame.specs.Answers.{pairFrom}
 use Rattle.pairing.specs.Pairs.{pairHeld, pairsHeld}
 
 abbrev Inv-loop : tie.InvT-loop
-Inv-loop count pairs edges ts p end1 end2 cost mark mask i₀ i = (i ≤ count) × (pairsHeld edges p ts end1 end2 cost mark mask i pairs ≡ true)
+Inv-loop count pairs edges ts p end1 end2 cost mark mask i₀ i = (i ≤ count) × (pairsHeld edges p (arrays end1 end2 cost mark ts mask) i pairs ≡ true)
 
 abbrev μ-loop : tie.MeasureT-loop
 μ-loop count pairs edges ts p end1 end2 cost mark mask i₀ i = count - i
@@ -20,8 +21,9 @@ abbrev μ-loop : tie.MeasureT-loop
 -- a pair holds
 abbrev holds : tie.Start Inv-loop μ-loop → ℕ → Bool
 holds s i =
-    pairHeld (s .args .edges) (s .args .trees) (s .args .ts .now) (s .args .end1 .now) (s .args .end2 .now) (s .args .cost .now) (s .args .mark .now)
-    (s .args .mask .now) (pairFrom (s .args .pairs .now) i .tree) (pairFrom (s .args .pairs .now) i .spare)
+    let a = s .args in
+    pairHeld (a .edges) (a .trees) (arrays (a .end1 .now) (a .end2 .now) (a .cost .now) (a .mark .now) (a .ts .now) (a .mask .now))
+    (pairFrom (a .pairs .now) i .tree) (pairFrom (a .pairs .now) i .spare)
 
 loop-holds : tie.Need-loop-holds Inv-loop μ-loop
 unfolding allBelow

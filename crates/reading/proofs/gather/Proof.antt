@@ -2,18 +2,19 @@
 -- Assumes nothing.
 use Prim.Native.Nat.{_-_}
 use native.Mathlib.Omega.{arith}
+use Rattle.frame.specs.Arrays.{columns}
 use Rattle.reading.specs.JobReadLaws.{Gathering, gather-start, gather-turn, gather-end}
 use Rattle.reading.proofs.gather.Statement.{statement}
 use Rattle.reading.proofs.gather.Tie as tie
 
 abbrev Inv-loop : tie.InvT-loop
-Inv-loop end1 end2 cost mark links₀ e₀ links e = Gathering 256 end1 end2 cost mark links e
+Inv-loop end1 end2 cost mark links₀ e₀ links e = Gathering 256 (columns end1 end2 cost mark) links e
 
 abbrev μ-loop : tie.MeasureT-loop
 μ-loop end1 end2 cost mark links₀ e₀ links e = 256 - e
 
 loop-holds : tie.Need-loop-holds Inv-loop μ-loop
-loop-holds c = gather-start 256 _ _ _ _
+loop-holds c = gather-start 256 _
 
 mul-t9 : tie.Need-mul-t9 Inv-loop μ-loop
 mul-t9 c = omega arith
@@ -54,10 +55,10 @@ loop-less c = omega arith
 loop-again : tie.Need-loop-again Inv-loop μ-loop
 loop-again c =
     let l = c .before .before .before .before in
-    gather-turn 256 _ _ _ _ _ _ (l .loop-test .taken) (l .before .loop .inv)
+    gather-turn 256 _ _ _ (l .loop-test .taken) (l .before .loop .inv)
 
 returns : tie.Need-returns Inv-loop μ-loop
-returns c = gather-end 256 _ _ _ _ _ _ (c .loop-test .left) (c .before .loop .inv)
+returns c = gather-end 256 _ _ _ (c .loop-test .left) (c .before .loop .inv)
 
 pub gather-spec : {M : Type 1} → statement M
 gather-spec =

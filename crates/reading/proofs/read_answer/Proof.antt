@@ -8,8 +8,10 @@ use Rattle.number.specs.Number.{Bytes}
 use Rattle.frame.specs.Questions.{jobOf}
 use Rattle.frame.specs.Answers.{readAnswer}
 use Rattle.frame.specs.AnswerLayout.{layout-read}
+use Rattle.frame.specs.Arrays.{arrays}
+use Rattle.held.specs.HeldLaws.{few-links}
 use Rattle.accept.specs.Accepting.{Asked}
-use Rattle.accept.specs.AskedLaws.{asked-number, asked-accepted, asked-edges, few-links}
+use Rattle.accept.specs.AskedLaws.{asked-number, asked-edges}
 use Rattle.judging.specs.declared.Verdict.{Verdict}
 use Rattle.judging.specs.declared.Verdict.the-variants.{Yes}
 use Rattle.judging.specs.Verdicts.{AnswerJudged}
@@ -30,8 +32,8 @@ offered-bytes t i = t .before .before .before .before .before .before .before .s
 asked :
     (t : tie.After-accept) →
     let l = t .accept .last .1 in
-    Asked (t .before .before .before .before .before .before .before .before .before .args .frame .now) (t .accept .result) (l .0) (l .1 .0) (l .1 .1 .0)
-    (l .1 .1 .1 .0) (l .1 .1 .1 .1 .0) (l .1 .1 .1 .1 .1 .0)
+    Asked (t .before .before .before .before .before .before .before .before .before .args .frame .now) (t .accept .result)
+    (arrays (l .0) (l .1 .0) (l .1 .1 .0) (l .1 .1 .1 .0) (l .1 .1 .1 .1 .0) (l .1 .1 .1 .1 .1 .0))
 asked t = record { bytes = bytes t; header-is = t .accept .ensures .0; held = t .accept .ensures .1 }
 
 -- the verdict on the offered frame
@@ -48,7 +50,7 @@ accept-requires : tie.Need-accept-requires
 accept-requires c κs = search needs
 
 judge-answer-held-requires : tie.Need-judge-answer-held-requires
-judge-answer-held-requires c κs = λ _. (_, asked (c .before .before .before .before .before .before))
+judge-answer-held-requires c κs = λ z. (_, asked (c .before .before .before .before .before .before) .held z)
 
 enum-told : tie.Need-enum-told
 enum-told c = search needs
@@ -82,7 +84,7 @@ accepted o =
     sym (asked-number (asked (accept-of j))) ∙ judged j .yes-means .0 (o .enum-told .given .1) .0
 
 read-contents-requires : tie.Need-read-contents-requires
-read-contents-requires c κs = few-links (asked (accept-of (c .before .before .before))) (accepted (c .before))
+read-contents-requires c κs = few-links (asked (accept-of (c .before .before .before)) .held (accepted (c .before)))
 
 returns-2 : tie.Need-returns-2
 returns-2 c =
@@ -99,7 +101,7 @@ returns-2 c =
     let o = readAnswer (length (jobOf s .links)) f in
     let is : o ≡ _ = layout-read (c′ .layout) in
     answer-given s f (bytes t) (offered-bytes t) _
-    (c .read-contents .ensures w (ap (λ m. readAnswer m f) (asked-edges k z) ∙ is) (pairs-most (jobOf s) (asked-accepted k z) c′)
+    (c .read-contents .ensures w (ap (λ m. readAnswer m f) (asked-edges k z) ∙ is) (pairs-most (jobOf s) (k .held z .accepted) c′)
     ∙ read-some (j .judge-answer-held .result) o w yes is ∙ ap (λ (v : Verdict). readOf v o) (judged j .said))
 
 pub read-answer-spec : {M : Type 1} → statement M

@@ -4,7 +4,7 @@ use mathlib.Core.Path.{_∙_}
 use Rattle.number.specs.Number.{Bytes}
 use Rattle.frame.specs.Questions.{jobOf, refusal}
 use Rattle.accept.specs.AcceptLaws.{accepted-number, accepted-nodes, accepted-edges}
-use Rattle.reading.specs.JobReadLaws.{gathered-held, given-refused, given-job, job-given}
+use Rattle.reading.specs.JobReadLaws.{gathered-stored, given-refused, given-job, job-given}
 use borrow.Author.Needs.{needs}
 use Rattle.reading.proofs.read_job.Statement.{statement}
 use Rattle.reading.proofs.read_job.Tie as tie
@@ -42,7 +42,7 @@ returns-2 c =
     let z = c .before .before .before .before .before .before .if1 .left in
     job-given s (bytes t) _
     (given-job (refusal s) (h .nodes) (h .edges) (c .gather .result) (jobOf s) (accepted-number s h is ∙ z) (accepted-nodes s h is z) (accepted-edges s h is z)
-    (c .gather .ensures ∙ gathered-held 256 (jobOf s) _ _ _ _ _ _ (t .accept .ensures .1 z)))
+    (c .gather .ensures ∙ gathered-stored 256 (t .accept .ensures .1 z .stored)))
 
 pub read-job-spec : {M : Type 1} → statement M
 read-job-spec =

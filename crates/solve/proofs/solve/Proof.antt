@@ -1,105 +1,122 @@
 -- `solve::solve` meets its contract: ranks, rows, matching, labels and partners are the model's. Assumes nothing.
-use Prim.Native.Nat.{ℕ, _-_}
-use mathlib.Core.Path.{refl, ap, subst}
+use Prim.Native.Nat.{ℕ, _-_, _≤_}
+use mathlib.Core.Path.{refl, ap}
+use mathlib.Core.List.{List}
 use native.Mathlib.Omega.{arith}
 use lib.ListN.{getD}
+use Rattle.frame.specs.Arrays.{Arrays, arrays}
 use Rattle.frame.specs.Accepted.{cost-small}
-use Rattle.matching.specs.Progress.{Built}
 use Rattle.sets.specs.SetsLaws.{member-none}
 use Rattle.links.specs.ColumnLaws.{zero-at}
-use Rattle.solve.specs.Solving.{Costed}
-use Rattle.solve.specs.SolveLaws.{tree-order, spare-order, few-spares, spare-edges, spare-ends, few-pairs, small-steps, answer-is}
+use Rattle.held.specs.Held.{Held}
+use Rattle.held.specs.HeldLaws.{some-node, few-nodes, few-links, tree-edge}
+use Rattle.solve.specs.Solving.{SparesRanked, Matched}
+use Rattle.solve.specs.SolveLaws.{tree-order, few-spares, spare-edges, spare-order, spare-ends, few-pairs, small-steps, answer-is}
 use Rattle.solve.proofs.solve.Statement.{statement}
 use Rattle.solve.proofs.solve.Tie as tie
 
+-- ---- the steps, from the last back to the start
+
+abbrev costs-of : tie.After-partners → tie.After-new-costs
+costs-of pa = pa .before .before .before .before .before
+
+abbrev build-of : tie.After-new-costs → tie.After-build
+build-of nc = nc .before .before .before .before .before .before .before .before
+
+abbrev rows-of : tie.After-build → tie.After-fill-rows
+rows-of bu = bu .before .before .before .before .before .before
+
+abbrev spares-of : tie.After-fill-rows → tie.After-spare-ranks
+spares-of f = f .before .before .before .before .before
+
+abbrev start-of : tie.After-spare-ranks → tie.Start
+start-of sr = sr .before .before .before
+
+-- ---- what they have computed
+
+abbrev arrays-of : tie.Start → Arrays
+arrays-of t = let a = t .args in arrays (a .end1 .now) (a .end2 .now) (a .cost .now) (a .mark .now) (a .ts .now) (a .mask .now)
+
+abbrev ss-of : tie.After-spare-ranks → List ℕ
+ss-of sr = sr .spare-ranks .last .1 .1 .1 .0
+
+abbrev held : (t : tie.Start) → Held (t .pre .0 .0) (t .args .nodes) (t .args .edges) (arrays-of t)
+held t = t .pre .0 .1
+
+ranked : (sr : tie.After-spare-ranks) → let t = start-of sr in SparesRanked (t .args .edges) (arrays-of t .links) (sr .spare-ranks .result) (ss-of sr)
+ranked sr = let e = sr .spare-ranks .ensures in record { size = e .0; ranked = e .1 .0; places = e .1 .1 }
+
+most-spares : (sr : tie.After-spare-ranks) → sr .spare-ranks .result ≤ 256
+most-spares sr = few-spares (held (start-of sr)) (ranked sr)
+
+matched :
+    (pa : tie.After-partners) →
+    let nc = costs-of pa in
+    let bu = build-of nc in
+    let f = rows-of bu in
+    let sr = spares-of f in
+    let t = start-of sr in
+    Matched (t .args .nodes - 1) (t .args .edges) (arrays-of t) (sr .spare-ranks .result) (ss-of sr) (f .fill-rows .last .1 .1 .1 .1 .1 .1 .1 .1 .0)
+    (bu .build .last .1 .1 .1 .1 .1 .1 .0) (bu .build .last .1 .1 .1 .1 .1 .1 .1 .0) (nc .new-costs .last .1 .1 .1 .1 .1 .1 .1 .0)
+    (nc .new-costs .last .1 .1 .1 .1 .1 .1 .1 .1 .1 .0) (pa .partners .last .1 .1 .1 .1 .0)
+matched pa =
+    let nc = costs-of pa in
+    let bu = build-of nc in
+    let f = rows-of bu in
+    record {
+      ranks = ranked (spares-of f);
+      filled = f .fill-rows .ensures .0;
+      built = bu .build .ensures;
+      costed = nc .new-costs .ensures;
+      joined = pa .partners .ensures .0;
+    }
+
+-- ---- the needs
+
 sub-trees : tie.Need-sub-trees
-sub-trees c = omega (arith, c .pre .nodes-are, c .pre .accepted .some-node)
+sub-trees c = some-node (held c)
 
 spare-ranks-requires : tie.Need-spare-ranks-requires
 spare-ranks-requires c κs =
-    let v = c .before .before .pre in (
-      omega (arith, v .edges-are, v .accepted .edge-limit),
+    let t = c .before .before in
+    let h = held t in (
+      few-links h,
       refl,
-      λ e l. omega (arith, ap (λ (f : ℕ → ℕ). f e) (v .held .cost), cost-small (v .job) (v .accepted .small) e),
+      λ e l. omega (arith, ap (λ (f : ℕ → ℕ). f e) (h .stored .cost), cost-small (t .pre .0 .0) (h .accepted .small) e),
     )
 
 fill-rows-requires : tie.Need-fill-rows-requires
 fill-rows-requires c κs =
     let sr = c .before .before .before .before in
-    let st = sr .before .before .before in
-    let a = st .args in
-    let v = st .pre in
-    let j = v .job in
-    let hj = v .held in
-    let aj = v .accepted in
-    let pm = v .edges-are in (
+    let h = held (start-of sr) in
+    let r = ranked sr in (
       (
-        omega (arith, v .nodes-are, aj .node-limit, aj .some-node),
+        omega (arith, few-nodes h),
         record {
-          places = hj .ranks-places;
-          most = omega (arith, v .nodes-are, aj .node-limit);
-          edges = λ k l. hj .ranked .edge k (omega (arith, v .nodes-are));
+          places = h .places;
+          most = omega (arith, few-nodes h);
+          edges = λ k l. omega (arith, tree-edge h k l, few-links h);
         },
-        λ k k′ h l. tree-order j (a .end1 .now) (a .end2 .now) (a .cost .now) (a .mark .now) (a .ts .now) (a .mask .now) hj aj k k′ h
-            (omega (arith, v .nodes-are)),
+        tree-order h,
       ),
       (
-        (
-          record {
-            places = sr .spare-ranks .ensures .1 .1;
-            most =
-                few-spares j (a .end1 .now) (a .end2 .now) (a .cost .now) (a .mark .now) (a .ts .now) (a .mask .now) hj aj (a .edges) (sr .spare-ranks .result)
-                (sr .spare-ranks .last .1 .1 .1 .0) pm (sr .spare-ranks .ensures .0) (sr .spare-ranks .ensures .1 .0);
-            edges =
-                spare-edges j (a .end1 .now) (a .end2 .now) (a .cost .now) (a .mark .now) (a .ts .now) (a .mask .now) hj aj (a .edges)
-                (sr .spare-ranks .result) (sr .spare-ranks .last .1 .1 .1 .0) pm (sr .spare-ranks .ensures .0) (sr .spare-ranks .ensures .1 .0);
-          },
-          spare-order j (a .end1 .now) (a .end2 .now) (a .cost .now) (a .mark .now) (a .ts .now) (a .mask .now) hj aj (a .edges) (sr .spare-ranks .result)
-              (sr .spare-ranks .last .1 .1 .1 .0) pm (sr .spare-ranks .ensures .0) (sr .spare-ranks .ensures .1 .0),
-        ),
-        (
-          spare-ends j (a .end1 .now) (a .end2 .now) (a .cost .now) (a .mark .now) (a .ts .now) (a .mask .now) hj aj (a .edges) (sr .spare-ranks .result)
-              (sr .spare-ranks .last .1 .1 .1 .0) pm (sr .spare-ranks .ensures .0) (sr .spare-ranks .ensures .1 .0),
-          refl,
-        ),
+        (record { places = r .places; most = few-spares h r; edges = spare-edges h r }, spare-order h r),
+        (spare-ends h r, refl),
       ),
     )
 
 cast-build : tie.Need-cast-build
-cast-build c =
-    let sr = c .before .before .before .before .before .before in
-    let st = sr .before .before .before in
-    let a = st .args in
-    let v = st .pre in
-    let j = v .job in
-    let hj = v .held in
-    let aj = v .accepted in
-    let pm = v .edges-are in
-    omega (
-      arith,
-      few-spares j (a .end1 .now) (a .end2 .now) (a .cost .now) (a .mark .now) (a .ts .now) (a .mask .now) hj aj (a .edges)
-          (sr .spare-ranks .result) (sr .spare-ranks .last .1 .1 .1 .0) pm (sr .spare-ranks .ensures .0) (sr .spare-ranks .ensures .1 .0),
-    )
+cast-build c = omega (arith, most-spares (c .before .before .before .before .before .before))
 
 build-requires : tie.Need-build-requires
 build-requires c κs =
     let sr = c .before .before .before .before .before .before .before .before .before .before in
-    let st = sr .before .before .before in
-    let a = st .args in
-    let v = st .pre in
-    let j = v .job in
-    let hj = v .held in
-    let aj = v .accepted in
-    let pm = v .edges-are in
+    let h = held (start-of sr) in
     record {
-      few-trees = omega (arith, v .nodes-are, aj .node-limit);
-      few-spares =
-          few-spares j (a .end1 .now) (a .end2 .now) (a .cost .now) (a .mark .now) (a .ts .now) (a .mask .now) hj aj (a .edges) (sr .spare-ranks .result)
-          (sr .spare-ranks .last .1 .1 .1 .0) pm (sr .spare-ranks .ensures .0) (sr .spare-ranks .ensures .1 .0);
-      tree-edges = λ k l. hj .ranked .edge k (omega (arith, v .nodes-are));
-      spare-edges =
-          spare-edges j (a .end1 .now) (a .end2 .now) (a .cost .now) (a .mark .now) (a .ts .now) (a .mask .now) hj aj (a .edges) (sr .spare-ranks .result)
-          (sr .spare-ranks .last .1 .1 .1 .0) pm (sr .spare-ranks .ensures .0) (sr .spare-ranks .ensures .1 .0);
+      few-trees = omega (arith, few-nodes h);
+      few-spares = most-spares sr;
+      tree-edges = λ k l. omega (arith, tree-edge h k l, few-links h);
+      spare-edges = spare-edges h (ranked sr);
       mates-length = refl;
       taken-length = refl;
       empty = λ s. zero-at 256 s;
@@ -109,176 +126,69 @@ build-requires c κs =
 new-costs-requires : tie.Need-new-costs-requires
 new-costs-requires c κs =
     let bu = c .before .before .before .before .before .before .before in
-    let sr = bu .before .before .before .before .before .before .before .before .before .before .before in
-    let st = sr .before .before .before in
-    let a = st .args in
-    let v = st .pre in
-    let j = v .job in
-    let hj = v .held in
-    let aj = v .accepted in
-    let pm = v .edges-are in
+    let sr = spares-of (rows-of bu) in
+    let t = start-of sr in
+    let h = held t in
+    let r = ranked sr in
     record {
-      few-trees = omega (arith, v .nodes-are, aj .node-limit);
-      few-spares =
-          few-spares j (a .end1 .now) (a .end2 .now) (a .cost .now) (a .mark .now) (a .ts .now) (a .mask .now) hj aj (a .edges) (sr .spare-ranks .result)
-          (sr .spare-ranks .last .1 .1 .1 .0) pm (sr .spare-ranks .ensures .0) (sr .spare-ranks .ensures .1 .0);
-      tree-edges = λ k l. hj .ranked .edge k (omega (arith, v .nodes-are));
-      spare-edges =
-          spare-edges j (a .end1 .now) (a .end2 .now) (a .cost .now) (a .mark .now) (a .ts .now) (a .mask .now) hj aj (a .edges) (sr .spare-ranks .result)
-          (sr .spare-ranks .last .1 .1 .1 .0) pm (sr .spare-ranks .ensures .0) (sr .spare-ranks .ensures .1 .0);
-      rising =
-          spare-order j (a .end1 .now) (a .end2 .now) (a .cost .now) (a .mark .now) (a .ts .now) (a .mask .now) hj aj (a .edges) (sr .spare-ranks .result)
-          (sr .spare-ranks .last .1 .1 .1 .0) pm (sr .spare-ranks .ensures .0) (sr .spare-ranks .ensures .1 .0);
-      tree-places = hj .ranks-places;
-      spare-places = sr .spare-ranks .ensures .1 .1;
+      few-trees = omega (arith, few-nodes h);
+      few-spares = most-spares sr;
+      tree-edges = λ k l. omega (arith, tree-edge h k l, few-links h);
+      spare-edges = spare-edges h r;
+      rising = spare-order h r;
+      tree-places = h .places;
+      spare-places = r .places;
       mates-length = bu .build .ensures .mates-length;
       below = bu .build .ensures .below;
       taken-length = bu .build .ensures .taken-length;
       taken-are = bu .build .ensures .taken-are;
       unlabelled = refl;
-      empty = v .empty;
+      empty = t .pre .1 .0;
     }
 
 partners-requires : tie.Need-partners-requires
 partners-requires c κs =
     let nc = c .before .before .before .before in
-    let sr = nc .before .before .before .before .before .before .before .before .before .before .before .before .before .before .before .before .before .before .before in
-    let st = sr .before .before .before in
-    let a = st .args in
-    let v = st .pre in
-    let j = v .job in
-    let hj = v .held in
-    let aj = v .accepted in
-    let pm = v .edges-are in
+    let sr = spares-of (rows-of (build-of nc)) in
+    let h = held (start-of sr) in
+    let r = ranked sr in
     let below = nc .new-costs .ensures .below in (
-      record {
-        places = sr .spare-ranks .ensures .1 .1;
-        most = few-spares j (a .end1 .now) (a .end2 .now) (a .cost .now) (a .mark .now) (a .ts .now) (a .mask .now) hj aj (a .edges)
-            (sr .spare-ranks .result) (sr .spare-ranks .last .1 .1 .1 .0) pm (sr .spare-ranks .ensures .0) (sr .spare-ranks .ensures .1 .0);
-        edges = spare-edges j (a .end1 .now) (a .end2 .now) (a .cost .now) (a .mark .now) (a .ts .now) (a .mask .now) hj aj (a .edges)
-            (sr .spare-ranks .result) (sr .spare-ranks .last .1 .1 .1 .0) pm (sr .spare-ranks .ensures .0) (sr .spare-ranks .ensures .1 .0);
-      },
+      record { places = r .places; most = few-spares h r; edges = spare-edges h r },
       (
         record {
-          ranks = λ s l. omega (arith, below s, v .nodes-are, aj .node-limit);
-          edges = λ s l z. hj .ranked .edge (getD (nc .new-costs .last .1 .1 .1 .1 .1 .1 .1 .0) s 0 - 1) (omega (arith, below s, v .nodes-are));
+          ranks = λ s l. omega (arith, below s, few-nodes h);
+          edges = λ s l z.
+              let k = getD (nc .new-costs .last .1 .1 .1 .1 .1 .1 .1 .0) s 0 - 1 in
+              omega (arith, tree-edge h k (omega (arith, below s)), few-links h);
         },
         refl,
       ),
     )
 
 steps-requires : tie.Need-steps-requires
-steps-requires c κs =
-    let v = c .before .before .before .before .before .before .before .before .before .before .before .before .before .before .before .before .before .before .before .before .before .before .before .before .before .before .before .before .pre in
-    omega (arith, v .edges-are, v .accepted .edge-limit)
+steps-requires c κs = few-links (held (start-of (spares-of (rows-of (build-of (costs-of (c .before)))))))
 
 list-pairs-requires : tie.Need-list-pairs-requires
 list-pairs-requires c κs =
     let pa = c .before .before .before .before in
-    let nc = pa .before .before .before .before .before in
-    let bu = nc .before .before .before .before .before .before .before .before in
-    let f = bu .before .before .before .before .before .before in
-    let sr = f .before .before .before .before .before in
-    let st = sr .before .before .before in
-    let a = st .args in
-    let v = st .pre in
-    let j = v .job in
-    let hj = v .held in
-    let aj = v .accepted in
-    let pm = v .edges-are in
-    let pn = v .nodes-are in (
-      omega (arith, v .edges-are, v .accepted .edge-limit),
-      (
-        few-pairs j (a .end1 .now) (a .end2 .now) (a .cost .now) (a .mark .now) (a .ts .now) (a .mask .now) hj aj (a .edges) (sr .spare-ranks .result)
-            (sr .spare-ranks .last .1 .1 .1 .0) pm (sr .spare-ranks .ensures .0) (sr .spare-ranks .ensures .1 .0)
-            (f .fill-rows .last .1 .1 .1 .1 .1 .1 .1 .1 .0)
-            (λ t s l. f .fill-rows .ensures .0 t s (omega (arith, pn))) (bu .build .last .1 .1 .1 .1 .1 .1 .0) (bu .build .last .1 .1 .1 .1 .1 .1 .1 .0)
-            (nc .new-costs .last .1 .1 .1 .1 .1 .1 .1 .0) (nc .new-costs .last .1 .1 .1 .1 .1 .1 .1 .1 .1 .0) (pa .partners .last .1 .1 .1 .1 .0)
-            (subst (λ (n : ℕ). Built (n - 1) (sr .spare-ranks .result) (a .cost .now) (a .ts .now) (sr .spare-ranks .last .1 .1 .1 .0)
-            (f .fill-rows .last .1 .1 .1 .1 .1 .1 .1 .1 .0) (bu .build .last .1 .1 .1 .1 .1 .1 .0)
-            (bu .build .last .1 .1 .1 .1 .1 .1 .1 .0)) pn (bu .build .ensures)) (subst (λ (n : ℕ). Costed (n - 1) (sr .spare-ranks .result) (a .cost .now)
-            (a .ts .now) (sr .spare-ranks .last .1 .1 .1 .0) (f .fill-rows .last .1 .1 .1 .1 .1 .1 .1 .1 .0) (bu .build .last .1 .1 .1 .1 .1 .1 .0)
-            (nc .new-costs .last .1 .1 .1 .1 .1 .1 .1 .0)
-            (nc .new-costs .last .1 .1 .1 .1 .1 .1 .1 .1 .1 .0)) pn (nc .new-costs .ensures)) (pa .partners .ensures .0),
-        v .places,
-      ),
-    )
+    let t = start-of (spares-of (rows-of (build-of (costs-of pa)))) in
+    (few-links (held t), (few-pairs (held t) (matched pa), t .pre .1 .1))
 
 cast-t28 : tie.Need-cast-t28
 cast-t28 c =
-    let t = c .before .before .before in
-    let pa = t .before .before in
-    let nc = pa .before .before .before .before .before in
-    let bu = nc .before .before .before .before .before .before .before .before in
-    let f = bu .before .before .before .before .before .before in
-    let sr = f .before .before .before .before .before in
-    let st = sr .before .before .before in
-    let a = st .args in
-    let v = st .pre in
-    let j = v .job in
-    let hj = v .held in
-    let aj = v .accepted in
-    let pm = v .edges-are in
-    let pn = v .nodes-are in
-    omega (
-      arith,
-      t .steps .ensures,
-      small-steps j (a .end1 .now) (a .end2 .now) (a .cost .now) (a .mark .now) (a .ts .now) (a .mask .now) hj aj (a .edges)
-          (sr .spare-ranks .result) (sr .spare-ranks .last .1 .1 .1 .0) pm (sr .spare-ranks .ensures .0) (sr .spare-ranks .ensures .1 .0)
-          (f .fill-rows .last .1 .1 .1 .1 .1 .1 .1 .1 .0) (λ t s l. f .fill-rows .ensures .0 t s (omega (arith, pn))) (bu .build .last .1 .1 .1 .1 .1 .1 .0)
-          (bu .build .last .1 .1 .1 .1 .1 .1 .1 .0) (nc .new-costs .last .1 .1 .1 .1 .1 .1 .1 .0) (nc .new-costs .last .1 .1 .1 .1 .1 .1 .1 .1 .1 .0)
-          (pa .partners .last .1 .1 .1 .1 .0) (subst
-          (λ (n : ℕ). Built (n - 1) (sr .spare-ranks .result) (a .cost .now) (a .ts .now) (sr .spare-ranks .last .1 .1 .1 .0)
-          (f .fill-rows .last .1 .1 .1 .1 .1 .1 .1 .1 .0) (bu .build .last .1 .1 .1 .1 .1 .1 .0)
-          (bu .build .last .1 .1 .1 .1 .1 .1 .1 .0)) pn (bu .build .ensures)) (subst (λ (n : ℕ). Costed (n - 1) (sr .spare-ranks .result) (a .cost .now)
-          (a .ts .now) (sr .spare-ranks .last .1 .1 .1 .0) (f .fill-rows .last .1 .1 .1 .1 .1 .1 .1 .1 .0) (bu .build .last .1 .1 .1 .1 .1 .1 .0)
-          (nc .new-costs .last .1 .1 .1 .1 .1 .1 .1 .0)
-          (nc .new-costs .last .1 .1 .1 .1 .1 .1 .1 .1 .1 .0)) pn (nc .new-costs .ensures)) (pa .partners .ensures .0),
-    )
+    let n = c .before .before .before in
+    let pa = n .before .before in
+    omega (arith, n .steps .ensures, small-steps (held (start-of (spares-of (rows-of (build-of (costs-of pa)))))) (matched pa))
 
 returns : tie.Need-returns
 returns c =
-    let t = c .before .before .before in
-    let pa = t .before .before in
-    let nc = pa .before .before .before .before .before in
-    let bu = nc .before .before .before .before .before .before .before .before in
-    let f = bu .before .before .before .before .before .before in
-    let sr = f .before .before .before .before .before in
-    let st = sr .before .before .before in
-    let a = st .args in
-    record {
-      few =
-          (let v = st .pre in let j = v .job in let hj = v .held in let aj = v .accepted in let pm = v .edges-are in
-          let pn = v .nodes-are in omega (
-            arith,
-            c .list-pairs .ensures .count,
-            few-pairs j (a .end1 .now) (a .end2 .now) (a .cost .now) (a .mark .now) (a .ts .now) (a .mask .now) hj aj (a .edges) (sr .spare-ranks .result)
-                (sr .spare-ranks .last .1 .1 .1 .0) pm (sr .spare-ranks .ensures .0) (sr .spare-ranks .ensures .1 .0)
-                (f .fill-rows .last .1 .1 .1 .1 .1 .1 .1 .1 .0) (λ t s l. f .fill-rows .ensures .0 t s (omega (arith, pn)))
-                (bu .build .last .1 .1 .1 .1 .1 .1 .0)
-                (bu .build .last .1 .1 .1 .1 .1 .1 .1 .0) (nc .new-costs .last .1 .1 .1 .1 .1 .1 .1 .0) (nc .new-costs .last .1 .1 .1 .1 .1 .1 .1 .1 .1 .0)
-                (pa .partners .last .1 .1 .1 .1 .0) (subst
-                (λ (n : ℕ). Built (n - 1) (sr .spare-ranks .result) (a .cost .now) (a .ts .now) (sr .spare-ranks .last .1 .1 .1 .0)
-                (f .fill-rows .last .1 .1 .1 .1 .1 .1 .1 .1 .0) (bu .build .last .1 .1 .1 .1 .1 .1 .0)
-                (bu .build .last .1 .1 .1 .1 .1 .1 .1 .0)) pn (bu .build .ensures)) (subst (λ (n : ℕ). Costed (n - 1) (sr .spare-ranks .result) (a .cost .now)
-                (a .ts .now) (sr .spare-ranks .last .1 .1 .1 .0) (f .fill-rows .last .1 .1 .1 .1 .1 .1 .1 .1 .0) (bu .build .last .1 .1 .1 .1 .1 .1 .0)
-                (nc .new-costs .last .1 .1 .1 .1 .1 .1 .1 .0)
-                (nc .new-costs .last .1 .1 .1 .1 .1 .1 .1 .1 .1 .0)) pn (nc .new-costs .ensures)) (pa .partners .ensures .0),
-          ));
-      answer =
-          λ j hj aj pn pm. answer-is j (a .end1 .now) (a .end2 .now) (a .cost .now) (a .mark .now) (a .ts .now) (a .mask .now) hj aj (a .edges)
-          (sr .spare-ranks .result) (sr .spare-ranks .last .1 .1 .1 .0) pm (sr .spare-ranks .ensures .0) (sr .spare-ranks .ensures .1 .0)
-          (f .fill-rows .last .1 .1 .1 .1 .1 .1 .1 .1 .0) (λ t s l. f .fill-rows .ensures .0 t s (omega (arith, pn))) (bu .build .last .1 .1 .1 .1 .1 .1 .0)
-          (bu .build .last .1 .1 .1 .1 .1 .1 .1 .0) (nc .new-costs .last .1 .1 .1 .1 .1 .1 .1 .0) (nc .new-costs .last .1 .1 .1 .1 .1 .1 .1 .1 .1 .0)
-          (pa .partners .last .1 .1 .1 .1 .0) (subst
-          (λ (n : ℕ). Built (n - 1) (sr .spare-ranks .result) (a .cost .now) (a .ts .now) (sr .spare-ranks .last .1 .1 .1 .0)
-          (f .fill-rows .last .1 .1 .1 .1 .1 .1 .1 .1 .0) (bu .build .last .1 .1 .1 .1 .1 .1 .0)
-          (bu .build .last .1 .1 .1 .1 .1 .1 .1 .0)) pn (bu .build .ensures)) (subst (λ (n : ℕ). Costed (n - 1) (sr .spare-ranks .result) (a .cost .now)
-          (a .ts .now) (sr .spare-ranks .last .1 .1 .1 .0) (f .fill-rows .last .1 .1 .1 .1 .1 .1 .1 .1 .0) (bu .build .last .1 .1 .1 .1 .1 .1 .0)
-          (nc .new-costs .last .1 .1 .1 .1 .1 .1 .1 .0)
-          (nc .new-costs .last .1 .1 .1 .1 .1 .1 .1 .1 .1 .0)) pn (nc .new-costs .ensures)) (pa .partners .ensures .0) (t .steps .result)
-          (c .list-pairs .result) (c .list-pairs .last .1 .1 .0) (t .steps .ensures) (c .list-pairs .ensures);
-    }
+    let n = c .before .before .before in
+    let pa = n .before .before in
+    let t = start-of (spares-of (rows-of (build-of (costs-of pa)))) in
+    let w = matched pa in (
+      omega (arith, c .list-pairs .ensures .count, few-pairs (held t) w),
+      λ j h. answer-is h w (n .steps .result) (c .list-pairs .result) _ (n .steps .ensures) (c .list-pairs .ensures),
+    )
 
 pub solve-spec : {M : Type 1} → statement M
 solve-spec =
