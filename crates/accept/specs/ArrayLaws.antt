@@ -91,7 +91,8 @@ module _ {j : Job} {n m : ℕ} {c : Columns} (k : Stored j n m c) where
   ranks-are = ap₂ (byRank m) (k .cost) (k .mark) ∙ ap (λ (m : ℕ). byRank m (costOf j) (λ e. link j e .mark)) (k .edges-are)
 
   -- The code's count of tree edges, and its ranks.
-  module _ (count : ℕ) (ts : List ℕ) (size : count ≡ length (treeList m (c .cost) (c .mark))) (ranked : take count ts ≡ treeList m (c .cost) (c .mark)) (places : length ts ≡ 256) where
+  module _ (count : ℕ) (ts : List ℕ) (size : count ≡ length (treeList m (c .cost) (c .mark))) (ranked : take count ts ≡ treeList m (c .cost) (c .mark))
+      (places : length ts ≡ 256) where
     ts-are : take count ts ≡ treeRanks (graphOf j) (treeOf j) (costOf j)
     ts-are = ranked ∙ ranks-are
 

@@ -30,7 +30,8 @@ fn tree_refusal(
 ) -> u32
     requires { ⌜ ((j : Job) × Stored j nodes edges (columns (now end1) (now end2) (now cost) (now mark))) ⌝ }
     requires { ⌜ length (now ts) ≡ 256 ⌝ }
-    ensures refusal { λ r. ⌜ ((j : Job) → Stored j nodes edges (columns (now (end1 .entry)) (now (end2 .entry)) (now (cost .entry)) (now (mark .entry))) → r ≡ treeRefusal j) ⌝ }
+    ensures refusal { λ r. ⌜ ((j : Job) → Stored j nodes edges (columns (now (end1 .entry)) (now (end2 .entry)) (now (cost .entry)) (now (mark .entry)))
+        → r ≡ treeRefusal j) ⌝ }
     ensures held { λ r. ⌜ ((j : Job) → Stored j nodes edges (columns (now (end1 .entry)) (now (end2 .entry)) (now (cost .entry)) (now (mark .entry))) → r ≡ 0
         → Held j nodes edges (arrays (now (end1 .entry)) (now (end2 .entry)) (now (cost .entry)) (now (mark .entry)) (now (ts .exit)) (now (mask .exit)))) ⌝ }
 {
@@ -87,7 +88,8 @@ pub fn accept_list(
     requires { ⌜ ListHeld edges (columns (now end1) (now end2) (now cost) (now mark)) ⌝ }
     requires { ⌜ length (now ts) ≡ 256 ⌝ }
     ensures refusal { λ r. ⌜ r ≡ listRefusal (jobAt nodes edges (columns (now (end1 .entry)) (now (end2 .entry)) (now (cost .entry)) (now (mark .entry)))) ⌝ }
-    ensures held { λ r. ⌜ (r ≡ 0 → Held (jobAt nodes edges (columns (now (end1 .entry)) (now (end2 .entry)) (now (cost .entry)) (now (mark .entry)))) nodes edges
+    ensures held { λ r. ⌜ (r ≡ 0
+        → Held (jobAt nodes edges (columns (now (end1 .entry)) (now (end2 .entry)) (now (cost .entry)) (now (mark .entry)))) nodes edges
         (arrays (now (end1 .entry)) (now (end2 .entry)) (now (cost .entry)) (now (mark .entry)) (now (ts .exit)) (now (mask .exit)))) ⌝ }
 {
     let refusal = links::check_list(nodes, edges, end1, end2, cost, mark);

@@ -25,9 +25,9 @@ fn answer_size(
     requires { ⌜ count ≤ 64 ⌝ }
     ensures { λ r. ⌜ r ≡ length (answerFrame (answerAt steps edges (now (costs .entry)) count (now (pairs .entry)))) ⌝ }
 {
-    leb128::size(steps, STEP_BYTES)
+    leb128_write::size(steps, STEP_BYTES)
         + codec::size(costs, edges)
-        + leb128::size_short(count as u32)
+        + leb128_write::size_short(count as u32)
         + codec::size(pairs, 2 * count)
 }
 
@@ -66,9 +66,9 @@ fn put_answer(
     requires { ⌜ at + length (answerFrame (answerAt steps edges (now costs) count (now pairs))) ≤ length (now area) ⌝ }
     ensures { λ r. ⌜ Put (now (area .entry)) at (answerFrame (answerAt steps edges (now (costs .entry)) count (now (pairs .entry)))) r (now (area .exit)) ⌝ }
 {
-    let first = leb128::write(area, at, steps, STEP_BYTES);
+    let first = leb128_write::write(area, at, steps, STEP_BYTES);
     let middle = codec::write(area, first, costs, edges);
-    let last = leb128::write_short(area, middle, count as u32);
+    let last = leb128_write::write_short(area, middle, count as u32);
     codec::write(area, last, pairs, 2 * count)
 }
 

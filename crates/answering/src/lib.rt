@@ -24,8 +24,9 @@ pub fn answer_held(
     area: &mut [u8],
 ) -> Reply
     requires { ⌜ SomeHeld header (arrays (now end1) (now end2) (now cost) (now mark) (now ts) (now mask)) ⌝ }
-    ensures answered { λ r. ⌜ ((s : List ℕ) → Asked s header (arrays (now (end1 .entry)) (now (end2 .entry)) (now (cost .entry)) (now (mark .entry)) (now (ts .entry))
-        (now (mask .entry))) → Answered s (now (area .entry)) r (now (area .exit))) ⌝ }
+    ensures answered { λ r. ⌜ ((s : List ℕ)
+        → Asked s header (arrays (now (end1 .entry)) (now (end2 .entry)) (now (cost .entry)) (now (mark .entry)) (now (ts .entry)) (now (mask .entry)))
+        → Answered s (now (area .entry)) r (now (area .exit))) ⌝ }
     ensures refused { λ r. ⌜ (header .refusal ≢ 0 → Untouched (header .refusal) (now (area .entry)) r (now (area .exit))) ⌝ }
 {
     let refusal = header.refusal;

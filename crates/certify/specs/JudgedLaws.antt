@@ -18,7 +18,8 @@ use Rattle.held.specs.HeldLaws.{graph-stored, tree-stored, few-nodes, few-links
 module _ {j : Job} {n m : ℕ} {a : Arrays} (h : Held j n m a) where
   pub falls-held : (falling : ℕ) → FallAlong (n - 1) falling (a .ranks) (a .links .cost)
   falls-held falling i k l b _ =
-      omega (arith, tree-price h i (omega arith), tree-price h k b, tree-falls (graphOf j) (treeOf j) (costOf j) i k (omega arith) (omega (arith, tree-count h)))
+      let falls = tree-falls (graphOf j) (treeOf j) (costOf j) i k (omega arith) (omega (arith, tree-count h)) in
+      omega (arith, tree-price h i (omega arith), tree-price h k b, falls)
 
   pub judged-held : Judged m (n - 1) (a .ranks) (a .links .end₁) (a .links .end₂) (a .mask)
   judged-held =

@@ -70,7 +70,7 @@ pub fn size(values: &[u32], count: usize) -> usize
     let mut total: usize = 0;
     let mut i: usize = 0;
     while i < count {
-        total += leb128::size_short(values[i]);
+        total += leb128_write::size_short(values[i]);
         i += 1;
     }
     total
@@ -85,7 +85,7 @@ pub fn write(area: &mut [u8], at: usize, values: &[u32], count: usize) -> usize
     let mut next = at;
     let mut i: usize = 0;
     while i < count {
-        next = leb128::write_short(area, next, values[i]);
+        next = leb128_write::write_short(area, next, values[i]);
         i += 1;
     }
     next

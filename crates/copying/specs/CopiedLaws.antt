@@ -21,7 +21,8 @@ use Rattle.judging.specs.declared.Verdict.the-variants.{Yes, No, Refused}
 use Rattle.reading.specs.JobsRead.{givenOf, jobIn}
 use Rattle.copying.specs.declared.JobCopy.{JobCopy}
 use Rattle.copying.specs.declared.AnswerCopy.{AnswerCopy}
-use Rattle.copying.specs.Copies.{jobCopy, JobCopied, pairNumbers, readFrom, offeredAnswer, lastly, fit, answerCopy, copiedInto, answerVerdict, AnswerCopied}
+use Rattle.copying.specs.Copies.{jobCopy, JobCopied, pairNumbers, readFrom, offeredAnswer, lastly}
+use Rattle.copying.specs.Copies.{fit, answerCopy, copiedInto, answerVerdict, AnswerCopied}
 
 -- Numbers in the first places of an array that has room for them, and behind them what it held.
 front : (xs room : List ℕ) → leb (length xs) (length room) ≡ true → sets room 0 xs ≡ xs ++ drop (length xs) room

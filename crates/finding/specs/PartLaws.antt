@@ -17,7 +17,8 @@ use Rattle.frame.specs.Questions.{jobOf, refusal}
 use Rattle.frame.specs.Services.{Place, nowhere, partAt}
 use Rattle.frame.specs.Replies.{linkPlace, linkPart, costPlace, costPart}
 use Rattle.frame.specs.Accepted.{accepted, accepted-form}
-use Rattle.frame.specs.Finders.{link-shown, link-refused, link-past, cost-nowhere-refused, cost-nowhere-past, cost-nowhere-judged, cost-placed, cost-shown, cost-refused, cost-past, cost-judged-no}
+use Rattle.frame.specs.Finders.{link-shown, link-refused, link-past, cost-nowhere-refused, cost-nowhere-past, cost-nowhere-judged}
+use Rattle.frame.specs.Finders.{cost-placed, cost-shown, cost-refused, cost-past, cost-judged-no}
 use Rattle.job.specs.declared.Header.{Header}
 use Rattle.job.specs.Reading.{header, headerOf}
 use Rattle.accept.specs.Accepting.{acceptedHeader}

@@ -61,8 +61,9 @@ pub fn locate_cost_held(
     edge: Edge,
 ) -> Part
     requires { ⌜ SomeHeld header (arrays (now end1) (now end2) (now cost) (now mark) (now ts) (now mask)) ⌝ }
-    ensures located { λ r. ⌜ ((s : List ℕ) → Asked s header (arrays (now (end1 .entry)) (now (end2 .entry)) (now (cost .entry)) (now (mark .entry)) (now (ts .entry))
-        (now (mask .entry))) → CostLocated s (now (offered .entry)) (edge .0) (placeOf r)) ⌝ }
+    ensures located { λ r. ⌜ ((s : List ℕ)
+        → Asked s header (arrays (now (end1 .entry)) (now (end2 .entry)) (now (cost .entry)) (now (mark .entry)) (now (ts .entry)) (now (mask .entry)))
+        → CostLocated s (now (offered .entry)) (edge .0) (placeOf r)) ⌝ }
     ensures refused { λ r. ⌜ (header .refusal ≢ 0 → placeOf r ≡ nowhere) ⌝ }
 {
     let e = edge.0;

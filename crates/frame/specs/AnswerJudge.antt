@@ -167,7 +167,8 @@ module _ {g : Graph} (sound : Sound g) {tr : EdgeSet} {ranks : List ℕ} (lists 
 
     pairs-mean :
         (ps : List Pair) →
-        (allBelow (length ps) (λ i. pairHolds g tr c ranks (getD ps i noPair)) ≡ true) ↔ ((p : Pair) → List·Memᴰ p ps → IsPair g tr p × (c (p .spare) < c (p .tree)))
+        (allBelow (length ps) (λ i. pairHolds g tr c ranks (getD ps i noPair)) ≡ true) ↔
+        ((p : Pair) → List·Memᴰ p ps → IsPair g tr p × (c (p .spare) < c (p .tree)))
     pairs-mean ps = (
       λ h p m. let (i, l, e) = member-place noPair m in rw (← e) (pair-means (getD ps i noPair) .0 (all-at (length ps) _ h i l)),
       λ h. all-of (length ps) _ (λ i l. pair-means (getD ps i noPair) .1 (h (getD ps i noPair) (getD-member noPair ps i l))),

@@ -15,7 +15,8 @@ use Rattle.number.specs.Number.{encode}
 use Rattle.number.specs.Laws.{encode-size-last, encode-size-most}
 use Rattle.frame.specs.Job.{JobLink, Job, noLink, link, fields, jobNumbers, bytesOf, jobFrame}
 use Rattle.limits.specs.Limits.{maxNodes, maxEdges, maxNumber, numberBytes, jobMost}
-use Rattle.frame.specs.Questions.{jobOf, numbers, question1, question2, question4, question5, ask, numberQuestions, formRefusal, counted, listQuestions, listFormRefusal}
+use Rattle.frame.specs.Questions.{jobOf, numbers, question1, question2, question4, question5}
+use Rattle.frame.specs.Questions.{ask, numberQuestions, formRefusal, counted, listQuestions, listFormRefusal}
 use Rattle.frame.specs.Services.{smallNumbers, small}
 use Rattle.frame.specs.Meaning.{Small, Complete, EndsHold, MarksHold}
 use Rattle.frame.specs.Division.{small-cons, divide-complete}

@@ -111,12 +111,14 @@ module _ {g : Graph} (sound : Sound g) {tr : EdgeSet} (tree : SpanningTree g tr)
         s < g .edges →
         S s ≡ true →
         tr s ≡ false →
-        (U : EdgeSet) × SpanningTree g U × (suc (count (g .edges) (outside U tr)) ≡ count (g .edges) (outside S tr)) × (total (g .edges) U d ≤ℤ total (g .edges) S d)
+        (U : EdgeSet) × SpanningTree g U ×
+        (suc (count (g .edges) (outside U tr)) ≡ count (g .edges) (outside S tr)) × (total (g .edges) U d ≤ℤ total (g .edges) S d)
     closer S other s k i o = by (partner S other s k i o)
       where
         by :
             Partner S s →
-            (U : EdgeSet) × SpanningTree g U × (suc (count (g .edges) (outside U tr)) ≡ count (g .edges) (outside S tr)) × (total (g .edges) U d ≤ℤ total (g .edges) S d)
+            (U : EdgeSet) × SpanningTree g U ×
+            (suc (count (g .edges) (outside U tr)) ≡ count (g .edges) (outside S tr)) × (total (g .edges) U d ≤ℤ total (g .edges) S d)
         by p =
             let t : ℕ = p .edge in
             let (l, j) = walk-member (p .covered .walk) (p .covered .holds) in (

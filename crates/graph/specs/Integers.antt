@@ -1,4 +1,5 @@
--- Order and sum of integers: of natural numbers it is theirs; a ≤ b exactly when some natural number added to a gives b; hence the order is transitive and sums keep it.
+-- Order and sum of integers: of natural numbers it is theirs; a ≤ b exactly when some natural number added to a gives b; hence
+-- the order is transitive and sums keep it.
 -- Assumes nothing.
 use Prim.Native.Nat.{ℕ, suc, _+_, _-_, _≤_, _<_}
 use native.Mathlib.Omega.{arith}

@@ -15,7 +15,8 @@ use Rattle.loops.specs.Loop.{scan, put, first}
 use Rattle.loops.specs.PutLaws.{put-same, put-other, put-kept, put-split}
 use Rattle.loops.specs.ScanLaws.{scan-keeps}
 use Rattle.loops.specs.FirstLaws.{First, first-is}
-use Rattle.loops.specs.TestLaws.{truth, clash, cond-both, choose-both, and-first, and-second, and-both, and-miss, or-either, or-means, xor-means, all-at, all-of}
+use Rattle.loops.specs.TestLaws.{truth, clash, cond-both, choose-both, and-first, and-second, and-both}
+use Rattle.loops.specs.TestLaws.{and-miss, or-either, or-means, xor-means, all-at, all-of}
 use Rattle.graph.specs.Graph.{Graph, Sound, EdgeSet, Leads, forth, back, Joined, count, SpanningTree, Minimum, Covers, spareOf}
 use Rattle.graph.specs.Rank.{Lists}
 use Rattle.graph.specs.Paths.{Rooted, root, attach, grow, touches, tryAt, expand, waits, expandAll, rooted, isTree, coversRank, judge}

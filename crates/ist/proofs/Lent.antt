@@ -81,7 +81,8 @@ module _ {M : Type 1} (𝓤 : URA M) (H : Heap 𝓤) (A : Atoms 𝓤) (mem : Mem
     -- what either call asks: the list is Copy, so what it owns is kept
     asks :
         Given 𝓤 H A →
-        ent 𝓤 (sep 𝓤 (A .lft κ q) (sem 𝓤 H A (Own κ s))) (sep 𝓤 (sep 𝓤 (sep 𝓤 (sep 𝓤 (A .lft κ q) (emp 𝓤)) (sem 𝓤 H A (fsep (Own κ s) ftrue))) (emp 𝓤)) (sem 𝓤 H A (Own κ s)))
+        ent 𝓤 (sep 𝓤 (A .lft κ q) (sem 𝓤 H A (Own κ s)))
+        (sep 𝓤 (sep 𝓤 (sep 𝓤 (sep 𝓤 (A .lft κ q) (emp 𝓤)) (sem 𝓤 H A (fsep (Own κ s) ftrue))) (emp 𝓤)) (sem 𝓤 H A (Own κ s)))
     asks W =
         qed W (‵ (flft κ q) ∷ ‵ (Own κ s) ∷ []) ∵ move ! (1 ∷ []) $ use1 W (‵ (Own κ s) ⊛ ‵ (Own κ s))
         (shr-slice-copy 𝓤 H A W (named 0) κ R .twice s (slice-vals s)) $ split ! $

@@ -1,5 +1,5 @@
-// The library's functions for C (include/ist.h). Those on frames are handed on to crate `ist_frames`; those over a lent list of
-// records are in list.rt.
+// The library's functions for C (include/ist.h). Those on frames are handed on to the crates `ist_frames`, `ist_finders` and
+// `ist_readers`; those over a lent list of records are in list.rt.
 ghost use Rattle.answering.specs.Answering.{Answered};
 ghost use Rattle.judging.specs.Verdicts.{TreeJudged, AnswerJudged};
 ghost use Rattle.finding.specs.Parts.{LinkLocated, CostLocated};
@@ -37,7 +37,7 @@ pub extern "C" fn ist_judge_answer(job: &[u8], answer: &[u8]) -> i32
 pub extern "C" fn ist_find_link(job: &[u8], link: u32, offset: &mut usize, length: &mut usize)
     ensures { λ _. ⌜ LinkLocated (now (job .entry)) link (record { offset = now (offset .exit); size = now (length .exit) }) ⌝ }
 {
-    ist_frames::find_link(job, link, offset, length);
+    ist_finders::find_link(job, link, offset, length);
 }
 
 // Where a link's new cost stands in an answer frame.
@@ -51,7 +51,7 @@ pub extern "C" fn ist_find_cost(
 )
     ensures { λ _. ⌜ CostLocated (now (job .entry)) (now (answer .entry)) link (record { offset = now (offset .exit); size = now (length .exit) }) ⌝ }
 {
-    ist_frames::find_cost(job, answer, link, offset, length);
+    ist_finders::find_cost(job, answer, link, offset, length);
 }
 
 // Reads a job frame into the array, four numbers a link.
@@ -65,7 +65,7 @@ pub extern "C" fn ist_read_job(
     ensures { λ r. ⌜ JobTold (λ said. JobCopied (now (job .entry)) (now (links .entry)) said (now (links .exit))) r (now (stations .exit))
         (now (count .exit)) ⌝ }
 {
-    ist_frames::read_job(job, links, stations, count)
+    ist_readers::read_job(job, links, stations, count)
 }
 
 // Judges a frame as an answer to the job frame, and reads it into the arrays.
@@ -82,5 +82,5 @@ pub extern "C" fn ist_read_answer(
     ensures { λ r. ⌜ AnswerTold (λ said. AnswerCopied (now (job .entry)) (now (answer .entry)) (now (costs .entry)) (now (pairs .entry)) said
         (now (costs .exit)) (now (pairs .exit))) r (now (steps .exit)) (now («cost_count» .exit)) (now («pair_count» .exit)) ⌝ }
 {
-    ist_frames::read_answer(job, answer, costs, pairs, steps, cost_count, pair_count)
+    ist_readers::read_answer(job, answer, costs, pairs, steps, cost_count, pair_count)
 }

@@ -61,7 +61,8 @@ module _ (nodes edges : ℕ) (c : Columns) where
     unfolding gather flatMap
     link-listed e l k =
         let four : 4 * (e + 1) + 2 ≡ 4 * e + 2 + 4 = omega arith in
-        rw (four, four-stored xs (4 * e + 2) (getD (c .end₁) e 0) (getD (c .end₂) e 0) (getD (c .cost) e 0) (getD (c .mark) e 0) (omega (arith, h)), k, add-one e)
+        let k₄ = four-stored xs (4 * e + 2) (getD (c .end₁) e 0) (getD (c .end₂) e 0) (getD (c .cost) e 0) (getD (c .mark) e 0) (omega (arith, h)) in
+        rw (four, k₄, k, add-one e)
         (ap (λ (ns : List ℕ). nodes ∷ edges ∷ ns) (sym (flatMap-append fields (linksAt e c) (linkAt c e ∷ []))))
 
   -- All links are listed.

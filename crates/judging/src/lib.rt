@@ -28,8 +28,9 @@ pub fn judge_held(
     mask: &[u64; 64],
 ) -> Verdict
     requires { ⌜ SomeHeld header (arrays (now end1) (now end2) (now cost) (now mark) (now ts) (now mask)) ⌝ }
-    ensures judged { λ r. ⌜ ((s : List ℕ) → Asked s header (arrays (now (end1 .entry)) (now (end2 .entry)) (now (cost .entry)) (now (mark .entry)) (now (ts .entry))
-        (now (mask .entry))) → TreeJudged s r) ⌝ }
+    ensures judged { λ r. ⌜ ((s : List ℕ)
+        → Asked s header (arrays (now (end1 .entry)) (now (end2 .entry)) (now (cost .entry)) (now (mark .entry)) (now (ts .entry)) (now (mask .entry)))
+        → TreeJudged s r) ⌝ }
     ensures refused { λ r. ⌜ (header .refusal ≢ 0 → r ≡ Refused (header .refusal)) ⌝ }
 {
     let refusal = header.refusal;
@@ -80,8 +81,9 @@ pub fn judge_answer_held(
     offered: &[u8],
 ) -> Verdict
     requires { ⌜ SomeHeld header (arrays (now end1) (now end2) (now cost) (now mark) (now ts) (now mask)) ⌝ }
-    ensures judged { λ r. ⌜ ((s : List ℕ) → Asked s header (arrays (now (end1 .entry)) (now (end2 .entry)) (now (cost .entry)) (now (mark .entry)) (now (ts .entry))
-        (now (mask .entry))) → AnswerJudged s (now (offered .entry)) r) ⌝ }
+    ensures judged { λ r. ⌜ ((s : List ℕ)
+        → Asked s header (arrays (now (end1 .entry)) (now (end2 .entry)) (now (cost .entry)) (now (mark .entry)) (now (ts .entry)) (now (mask .entry)))
+        → AnswerJudged s (now (offered .entry)) r) ⌝ }
     ensures refused { λ r. ⌜ (header .refusal ≢ 0 → r ≡ Refused (header .refusal)) ⌝ }
 {
     let first = header.refusal;

@@ -1,5 +1,5 @@
--- One step of each model, in the shape of the code's own tests: a number of bytes that is 0 or not, a position in the slice or past it, a
--- byte below 128 or not. Assumes nothing.
+-- One step of the model of reading, in the shape of the code's own tests: a number of bytes that is 0 or not, a position in the
+-- slice or past it, a byte below 128 or not. Assumes nothing.
 use Prim.Native.Nat.{ℕ, zero, suc, _+_, _*_, _-_, _/_, _%_, _^_, _<_, _≤_}
 use native.Mathlib.Nat.{lt-of-lt-of-le, pow-le-pow-right}
 use native.Mathlib.Numerals.{add-one}
@@ -10,28 +10,11 @@ use mathlib.Core.List.{List, [], _∷_}
 use lib.ListN.{length, drop, getD, drop-of-length-le}
 use lib.Seq.{drop-cons}
 use borrow.Author.Tests.{lt-ltb, le-ltb}
-use Rattle.number.specs.Number.{Bytes, encode, extend, decode}
+use Rattle.number.specs.Number.{Bytes, extend, decode}
 use Rattle.leb128.specs.Positions.{located, readAt, Stands, located-value, located-refused}
 use Rattle.number.specs.Number.Decoded.{number}
 use Rattle.leb128.specs.declared.Number.the-variants.{Value, Refused}
 use Rattle.number.specs.Laws.{bytes-drop, decode-bound, extend-zero, extend-more}
-
-pub encode-none : (k x : ℕ) → k ≡ 0 → encode k x ≡ []
-unfolding encode
-encode-none k x e = rw e
-
-pub encode-last : (k x : ℕ) → (k ≡ 0 → ⊥) → x < 128 → encode k x ≡ x ∷ []
-unfolding encode
-encode-last zero x some l = absurd (some refl)
-encode-last (suc k) x some l = rw (lt-ltb x 128 l)
-
-pub encode-more :
-    (k x : ℕ) → (k ≡ 0 → ⊥) → 128 ≤ x → encode k x ≡ (x % 128 + 128) ∷ encode (k - 1) (x / 128)
-unfolding encode
-encode-more zero x some l = absurd (some refl)
-encode-more (suc k) x some l =
-    let less : suc k - 1 ≡ k = omega arith in
-    rw (le-ltb x 128 l, less)
 
 pub read-none : (k : ℕ) (s : List ℕ) (at : ℕ) → k ≡ 0 → readAt k s at ≡ Refused
 unfolding decode located

@@ -152,8 +152,9 @@ module _ {nodes count : ℕ} {word : Bool} {links : List Link} {h : Header} {b :
       elim (ℕ-discrete (countRefusal nodes count word) 0) [
         | yes z ↦
             let a = g .said z in
+            let j = listJob nodes (take count links) in
             ⊎-elim
-            (λ y. accepted-few (jobFrame (listJob nodes (take count links))) h (a .asked y .header-is) (numbers-bytes (jobNumbers (listJob nodes (take count links)))))
+            (λ y. accepted-few (jobFrame j) h (a .asked y .header-is) (numbers-bytes (jobNumbers j)))
             (λ f. omega (arith, ap (λ (h : Header). h .edges) (a .large f)))
             (truth (small (listJob nodes (take count links))))
         | no n ↦ omega (arith, ap (λ (h : Header). h .edges) (g .refused n))

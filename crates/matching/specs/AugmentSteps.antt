@@ -18,7 +18,8 @@ use Rattle.bits.specs.Bit.{bit}
 use Rattle.bits.specs.BitLaws.{bit-past}
 use Rattle.sets.specs.Sets.{member, inRow, inSome}
 use Rattle.sets.specs.SetsLaws.{member-put}
-use Rattle.optimum.specs.Search.{Problem, Mates, Search, search, Progress, begun, coversSome, newTrees, goalOf, cheapestOf, worth, turned, augmentReached, augment}
+use Rattle.optimum.specs.Search.{Problem, Mates, Search, search, Progress, begun, coversSome}
+use Rattle.optimum.specs.Search.{newTrees, goalOf, cheapestOf, worth, turned, augmentReached, augment}
 use Rattle.optimum.specs.SearchLaws.{Explored, Always, search-fails}
 use Rattle.search.specs.State.{arrayMates, stateOf, Below, Rows}
 use Rattle.matching.specs.Progress.{progressOf, Holds, gain, Seekable, Sought, Augmentable, Augmented}

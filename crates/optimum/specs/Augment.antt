@@ -12,9 +12,11 @@ use Rattle.loops.specs.Loop.{first}
 use Rattle.loops.specs.TestLaws.{truth, clash, and-first, and-second, and-both, and-miss, choose-both}
 use Rattle.loops.specs.PutLaws.{put-same, put-other}
 use Rattle.loops.specs.FirstLaws.{First, first-is}
-use Rattle.optimum.specs.Search.{Problem, Mates, Search, search, Progress, begun, coversSome, newTrees, goalOf, cheapestOf, worth, turned, augmentReached, augment}
+use Rattle.optimum.specs.Search.{Problem, Mates, Search, search, Progress, begun, coversSome}
+use Rattle.optimum.specs.Search.{newTrees, goalOf, cheapestOf, worth, turned, augmentReached, augment}
 use Rattle.optimum.specs.Slackness.{Ranked}
-use Rattle.optimum.specs.SearchLaws.{AugmentingPath, stop, via, Kept, TreeClosed, SpareClosed, Explored, Always, search-fails, search-turns, search-explores, search-meets}
+use Rattle.optimum.specs.SearchLaws.{AugmentingPath, stop, via, Kept, TreeClosed, SpareClosed}
+use Rattle.optimum.specs.SearchLaws.{Explored, Always, search-fails, search-turns, search-explores, search-meets}
 use Rattle.optimum.specs.Matched.{Mate, mate, free, pair}
 use Rattle.optimum.specs.Invariant.{Pairs, Done, path-turns}
 

@@ -105,13 +105,15 @@ module _
     tree-view :
         (t : ℕ) →
         st .treeSeen t ≡ true →
-        ((l .treeDone t ≡ true) × (next .treeLabel t ≡ l .treeLabel t)) ⊎ (TreeClosed p (p .spares) (λ t. OnTree t v) (st .spareSeen) t × (next .treeLabel t ≡ v))
+        ((l .treeDone t ≡ true) × (next .treeLabel t ≡ l .treeLabel t)) ⊎
+        (TreeClosed p (p .spares) (λ t. OnTree t v) (st .spareSeen) t × (next .treeLabel t ≡ v))
     tree-view t h = relabel v (st .treeSeen) (l .treeDone) (l .treeLabel) t (TreeClosed p (p .spares) (λ t. OnTree t v) (st .spareSeen) t) h (g .new-tree t h)
 
     spare-view :
         (s : ℕ) →
         st .spareSeen s ≡ true →
-        ((l .spareDone s ≡ true) × (next .spareLabel s ≡ l .spareLabel s)) ⊎ (SpareClosed p mates (λ s. OnSpare s v) (st .treeSeen) s × (next .spareLabel s ≡ v))
+        ((l .spareDone s ≡ true) × (next .spareLabel s ≡ l .spareLabel s)) ⊎
+        (SpareClosed p mates (λ s. OnSpare s v) (st .treeSeen) s × (next .spareLabel s ≡ v))
     spare-view s h = relabel v (st .spareSeen) (l .spareDone) (l .spareLabel) s (SpareClosed p mates (λ s. OnSpare s v) (st .treeSeen) s) h (g .new-spare s h)
 
     tree-floor : (t : ℕ) → st .treeSeen t ≡ true → v ≤ next .treeLabel t

@@ -59,13 +59,16 @@ module _ (edges p : ℕ) (a : Arrays) (t s : ℕ) where
   tree-unmarked l d = rw (lt-ltb t edges l, ne-eqb (getD (a .links .mark) t 0) 1 d)
 
   module _ (below : t < edges) (marked : getD (a .links .mark) t 0 ≡ 1) where
+    in-tree : arrayTree (a .links .mark) t ≡ true
+    in-tree = eq-eqb (getD (a .links .mark) t 0) 1 marked
+
     pub spare-past : edges ≤ s → pairHeld edges p a t s ≡ false
     unfolding pairHeld
-    spare-past l = rw (lt-ltb t edges below, eq-eqb (getD (a .links .mark) t 0) 1 marked, le-ltb s edges l)
+    spare-past l = rw (lt-ltb t edges below, in-tree, le-ltb s edges l)
 
     pub spare-marked : s < edges → getD (a .links .mark) s 0 ≡ 1 → pairHeld edges p a t s ≡ false
     unfolding pairHeld
-    spare-marked l e = rw (lt-ltb t edges below, eq-eqb (getD (a .links .mark) t 0) 1 marked, lt-ltb s edges l, eq-eqb (getD (a .links .mark) s 0) 1 e)
+    spare-marked l e = rw (lt-ltb t edges below, in-tree, lt-ltb s edges l, eq-eqb (getD (a .links .mark) s 0) 1 e)
 
     module _ (within : s < edges) (spare : getD (a .links .mark) s 0 ≡ 1 → ⊥) (k : ℕ) (rank : k ≡ rankOf (take p (a .ranks)) t)
         (r : Bool) (crosses : r ≡ across (a .mask) (getD (a .links .end₁) s 0) (getD (a .links .end₂) s 0) k) where
@@ -74,11 +77,11 @@ module _ (edges p : ℕ) (a : Arrays) (t s : ℕ) where
 
       pub spare-apart : r ≡ false → pairHeld edges p a t s ≡ false
       unfolding pairHeld
-      spare-apart e = rw (lt-ltb t edges below, eq-eqb (getD (a .links .mark) t 0) 1 marked, lt-ltb s edges within, ne-eqb (getD (a .links .mark) s 0) 1 spare, covering, e)
+      spare-apart e = rw (lt-ltb t edges below, in-tree, lt-ltb s edges within, ne-eqb (getD (a .links .mark) s 0) 1 spare, covering, e)
 
       pub pair-dearer : r ≡ true → ltb (getD (a .links .cost) s 0) (getD (a .links .cost) t 0) ≡ pairHeld edges p a t s
       unfolding pairHeld
-      pair-dearer e = rw (lt-ltb t edges below, eq-eqb (getD (a .links .mark) t 0) 1 marked, lt-ltb s edges within, ne-eqb (getD (a .links .mark) s 0) 1 spare, covering, e)
+      pair-dearer e = rw (lt-ltb t edges below, in-tree, lt-ltb s edges within, ne-eqb (getD (a .links .mark) s 0) 1 spare, covering, e)
 
   -- What a pair that holds is.
   module _ (h : pairHeld edges p a t s ≡ true) where

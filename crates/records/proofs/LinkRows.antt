@@ -4,7 +4,8 @@
 --     zero-is          the link of zeros has its machine value
 --     zeros-typed, zeros-apart     n times that link is an array of n links, and lies in memory link by link
 --     whole            n links that lie in memory link by link are an array, which owns what an array owns
---     AtMost, counts   the contract of `at_most`, and its call as a step: the counted number r is the smaller one, and lands where the code says. The operands are read with what `at_most` asks in front of the context
+--     AtMost, counts   the contract of `at_most`, and its call as a step: the counted number r is the smaller one, and lands where
+--                      the code says. The operands are read with what `at_most` asks in front of the context
 --     big-lit          an operand that is a number above 1,023 (`intBig`), beside `Types/Run.antt`'s `lit`
 --     gone, gone-room  at a return: a local is freed where it stands in the context, one that holds a value and one that is room
 -- Assumes `Given`.
@@ -25,7 +26,8 @@ use prog.Routine.{Routine}
 use prog.Wp.{Heap, Env, Tables}
 use ghost.Atoms.{Atoms, sem}
 use contract.Monad.{Fun, fact}
-use types.Kit.{Given, Go, Item, Post, Goal, Sq, some, later, raw, _⊛_, runs, lands, Step, step, mean, ⋆, nth, del, pull, frees, ‵, _$_, _∵_, !, qed, move, drop, use0, use1, split, join, pick, rewrite, fsplit, fjoin, fpick, fpack, feqI, frame, await, done}
+use types.Kit.{Given, Go, Item, Post, Goal, Sq, some, later, raw, _⊛_, runs, lands, Step, step, mean, ⋆, nth, del, pull, frees, ‵}
+use types.Kit.{_$_, _∵_, !, qed, move, drop, use0, use1, split, join, pick, rewrite, fsplit, fjoin, fpick, fpack, feqI, frame, await, done}
 use types.Run.{Opd, Opds}
 use types.Share.{arr-parts}
 use sound.WpLaws.{fmOf}
@@ -161,7 +163,8 @@ module _ {M : Type 1} {𝓤 : URA M} {H : Heap 𝓤} {A : Atoms 𝓤} {K : Type 
       prf = via 𝓤 (sep 𝓤 (mean 𝓤 H A i) (⋆ 𝓤 H A rest)) (subst (λ (j : Item 𝓤). ent 𝓤 (⋆ 𝓤 H A Γ) (sep 𝓤 (mean 𝓤 H A j) (⋆ 𝓤 H A rest))) e (pull 𝓤 H A k Γ))
           (via 𝓤 (sep 𝓤 (H .room τ b 0) (sep 𝓤 (H .dies τ b) (⋆ 𝓤 H A (del 𝓤 H A k rest))))
           (mono∗ 𝓤 room (subst (λ (j : Item 𝓤). ent 𝓤 (⋆ 𝓤 H A rest) (sep 𝓤 (mean 𝓤 H A j) (⋆ 𝓤 H A (del 𝓤 H A k rest)))) d (pull 𝓤 H A k rest)))
-          (via 𝓤 (sep 𝓤 (sep 𝓤 (H .room τ b 0) (H .dies τ b)) (⋆ 𝓤 H A (del 𝓤 H A k rest))) (assoc′ 𝓤 (H .room τ b 0) (H .dies τ b) (⋆ 𝓤 H A (del 𝓤 H A k rest)))
+          (via 𝓤 (sep 𝓤 (sep 𝓤 (H .room τ b 0) (H .dies τ b)) (⋆ 𝓤 H A (del 𝓤 H A k rest)))
+          (assoc′ 𝓤 (H .room τ b 0) (H .dies τ b) (⋆ 𝓤 H A (del 𝓤 H A k rest)))
           (monoR 𝓤 (sep 𝓤 (H .room τ b 0) (H .dies τ b)) (s .prf))));
     })
       where

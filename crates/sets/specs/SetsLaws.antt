@@ -15,7 +15,8 @@ use lib.Dec.{eqb, ltb}
 use borrow.Author.Tests.{eq-eqb, ne-eqb, lt-ltb}
 use Rattle.loops.specs.Loop.{put, first, last, behind, inBlock, pick}
 use Rattle.loops.specs.TestLaws.{truth, clash, and-first, and-second, and-both, or-either, same-test}
-use Rattle.loops.specs.FirstLaws.{First, first-is, first-found, first-same, some-of, some-at, Last, last-same, last-none, behind-none, behind-last, behind-same, pick-is, pick-ext}
+use Rattle.loops.specs.FirstLaws.{First, first-is, first-found, first-same, some-of, some-at, Last}
+use Rattle.loops.specs.FirstLaws.{last-same, last-none, behind-none, behind-last, behind-same, pick-is, pick-ext}
 use Rattle.bits.specs.Bit.{bit}
 use Rattle.bits.specs.BitLaws.{bit-zero, first-below, last-set}
 use Rattle.bits.specs.ChangeLaws.{added}

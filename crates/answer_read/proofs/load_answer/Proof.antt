@@ -16,7 +16,8 @@ use Rattle.limits.specs.Limits.{stepBytes}
 use Rattle.frame.specs.Questions.{numbers}
 use Rattle.division.specs.declared.Numbers.the-variants.{Count}
 use Rattle.division.specs.Counting.{countFrom}
-use Rattle.answer_read.specs.AnswerLaws.{steps-within, answer-unread, answer-undivided, read-short, answer-many, answer-wrong, answer-read, answer-kept, no-answer}
+use Rattle.answer_read.specs.AnswerLaws.{steps-within, answer-unread, answer-undivided, read-short, answer-many}
+use Rattle.answer_read.specs.AnswerLaws.{answer-wrong, answer-read, answer-kept, no-answer}
 
 -- the frame and the part behind the steps
 abbrev frame-of : tie.After-first → List ℕ

@@ -136,7 +136,9 @@ returns-3 c = λ j h.
     sym (judged (first-of e₂) j h ∙ verdict-costs _ _ _ _ _ _ (steps-pass e₂) (sym (m .judge .ensures _ (paths-held h)) ∙ not-true _ (c .if3 .taken)))
 
 pairs-hold-requires : tie.Need-pairs-hold-requires
-pairs-hold-requires c κs = (c .before .before .before .before .before .before .before .before .before .before .load-answer .ensures .1 .0, judged-held (c .before .before .before .before .before .before .before .before .before .before .before .before .before .before .pre .1))
+pairs-hold-requires c κs =
+    let r = c .before .before .before .before .before .before .before .before .before .before in
+    (r .load-answer .ensures .1 .0, judged-held (start-of r .pre .1))
 
 returns-4 : tie.Need-returns-4
 returns-4 c = λ j h.
@@ -162,7 +164,8 @@ pairs-weight-requires c κs =
     let r = read-of (first-of (second-of e₄)) in
     let s = start-of r in
     let a = s .args in
-    held-falling (a .edges) (a .nodes - 1) (arrays-of s) (r .load-answer .result .count) (pairs-of r) (few-links (s .pre .1)) (r .load-answer .ensures .1 .0) (pairs-pass e₄)
+    held-falling (a .edges) (a .nodes - 1) (arrays-of s) (r .load-answer .result .count) (pairs-of r) (few-links (s .pre .1))
+    (r .load-answer .ensures .1 .0) (pairs-pass e₄)
 
 returns-6 : tie.Need-returns-6
 returns-6 c = λ j h.

@@ -1,4 +1,4 @@
--- `ist::ist_read_answer` meets its contract: it is that of `ist_frames::read_answer`. Assumes nothing.
+-- `ist::ist_read_answer` meets its contract: it is that of `ist_readers::read_answer`. Assumes nothing.
 use mathlib.Core.Path.{_≡_, _∙_}
 use mir.Syntax.{w32}
 use mir.Val.{toZ, ofZ}

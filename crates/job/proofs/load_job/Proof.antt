@@ -12,7 +12,8 @@ use Rattle.job.specs.declared.Header.{Header}
 use Rattle.frame.specs.Arrays.{Columns, columns}
 use Rattle.job.specs.Reading.{LinksLoaded, loaded, filled}
 use Rattle.links.specs.Columns.{endsHold, marksHold}
-use Rattle.job.specs.FormLaws.{CountsPassed, counts-passed, counts-refused, links-left, links-read, ends-read, marks-read, ends-refused, marks-refused, form-passed}
+use Rattle.job.specs.FormLaws.{CountsPassed, counts-passed, counts-refused, links-left, links-read}
+use Rattle.job.specs.FormLaws.{ends-read, marks-read, ends-refused, marks-refused, form-passed}
 use Rattle.job.proofs.load_job.Statement.{statement}
 use Rattle.job.proofs.load_job.Tie as tie
 

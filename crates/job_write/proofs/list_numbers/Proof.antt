@@ -4,7 +4,7 @@ use Prim.Native.Nat.{_-_, _≤_}
 use mathlib.Core.Path.{_≡_, _∙_}
 use native.Mathlib.Omega.{arith}
 use lib.ListN.{length, length-set}
-use Rattle.frame.specs.Arrays.{columns}
+use Rattle.frame.specs.Arrays.{Columns, columns}
 use Rattle.job_write.specs.WritingLaws.{Begins, length-four, counts-listed, link-listed, job-listed}
 use Rattle.job_write.proofs.list_numbers.Statement.{statement}
 use Rattle.job_write.proofs.list_numbers.Tie as tie
@@ -15,6 +15,10 @@ Inv-loop nodes edges end1 end2 cost mark numbers₀ e₀ numbers e =
 
 abbrev μ-loop : tie.MeasureT-loop
 μ-loop nodes edges end1 end2 cost mark numbers₀ e₀ numbers e = edges - e
+
+-- the links in their arrays
+abbrev held : tie.Start Inv-loop μ-loop → Columns
+held s = let a = s .args in columns (a .end1 .now) (a .end2 .now) (a .cost .now) (a .mark .now)
 
 element-write-numbers : tie.Need-element-write-numbers Inv-loop μ-loop
 element-write-numbers c = omega arith
@@ -29,7 +33,7 @@ loop-holds : tie.Need-loop-holds Inv-loop μ-loop
 loop-holds c =
     let a = c .args in
     let xs = a .numbers .now in
-    (omega arith, simp length-set (c .pre .1), counts-listed (a .nodes) (a .edges) (columns (a .end1 .now) (a .end2 .now) (a .cost .now) (a .mark .now)) xs (c .pre .1))
+    (omega arith, simp length-set (c .pre .1), counts-listed (a .nodes) (a .edges) (held c) xs (c .pre .1))
 
 mul-place : tie.Need-mul-place Inv-loop μ-loop
 mul-place c = omega arith
@@ -105,7 +109,7 @@ loop-again c =
     let l = c .before .before .before .before .before in
     let a = l .before .args in
     let xs = l .loop .numbers in
-    let one = link-listed (a .nodes) (a .edges) (columns (a .end1 .now) (a .end2 .now) (a .cost .now) (a .mark .now)) xs in
+    let one = link-listed (a .nodes) (a .edges) (held (l .before)) xs in
     let listed = one (l .loop .inv .1) (l .loop .e) (omega arith) (l .loop .inv .2) in
     (omega arith, length-four xs _ _ _ _ _ ∙ l .loop .inv .1, listed)
 
@@ -114,7 +118,7 @@ returns c =
     let l = c .before in
     let a = l .before .args in
     let all : l .loop .e ≡ a .edges = omega arith in
-    let rows = job-listed (a .nodes) (a .edges) (columns (a .end1 .now) (a .end2 .now) (a .cost .now) (a .mark .now)) (l .loop .numbers) (rw all at (l .loop .inv .2)) in
+    let rows = job-listed (a .nodes) (a .edges) (held (l .before)) (l .loop .numbers) (rw all at (l .loop .inv .2)) in
     (l .loop .inv .1, rows)
 
 pub list-numbers-spec : {M : Type 1} → statement M

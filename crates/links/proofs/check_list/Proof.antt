@@ -6,7 +6,8 @@ use mathlib.Core.Path.{_≡_, sym, ap, _∙_}
 use borrow.Author.Tests.{not-true, not-false}
 use Rattle.frame.specs.Arrays.{Columns, columns}
 use Rattle.links.specs.Columns.{linksSmall}
-use Rattle.links.specs.ListLaws.{check-large-nodes, check-large-edges, check-large, check-empty, check-nodes, check-edges, check-ends, check-marks, check-passed}
+use Rattle.links.specs.ListLaws.{check-large-nodes, check-large-edges, check-large, check-empty, check-nodes}
+use Rattle.links.specs.ListLaws.{check-edges, check-ends, check-marks, check-passed}
 use borrow.Author.Needs.{needs}
 use Rattle.links.proofs.check_list.Statement.{statement}
 use Rattle.links.proofs.check_list.Tie as tie

@@ -1,11 +1,33 @@
 -- `matching::augment` meets its contract. Assumes nothing.
 use borrow.Author.Tests.{not-true, not-false}
 use native.Mathlib.Omega.{arith}
-use mathlib.Core.Path.{sym, _∙_}
+use mathlib.Core.Path.{_≡_, sym, _∙_}
+use mathlib.Core.Bool.{true}
+use Rattle.matching.specs.Progress.{gain}
 use Rattle.matching.specs.AugmentSteps.{augmented-none, cheapest-seekable, augmented-met, goal-seekable, augmented-on, augmented-off}
 use borrow.Author.Needs.{needs}
 use Rattle.matching.proofs.augment.Statement.{statement}
 use Rattle.matching.proofs.augment.Tie as tie
+
+-- ---- the steps, from the last back to the start
+
+abbrev seek-of : tie.After-gains2 → tie.After-seek
+seek-of g = g .before .before .before .before .before
+
+abbrev open-of : tie.After-seek → tie.Else1
+open-of d = d .before .before .before .before .before .before .before
+
+abbrev start-of : tie.After-gains → tie.Start
+start-of f = f .before .before .before
+
+-- the cheapest unmatched spare gains
+cheapest-gains :
+    (e : tie.Else1) →
+    let f = e .before in
+    let a = start-of f .args in gain (a .spares) (a .cost .now) (a .ts .now) (a .ss .now) (a .t .0) (f .before .lowest-free .result) ≡ true
+cheapest-gains e = let f = e .before in sym (f .gains .ensures) ∙ not-false (f .gains .result) (e .if1 .left)
+
+-- ---- the needs
 
 lowest-free-requires : tie.Need-lowest-free-requires
 lowest-free-requires c κs = search needs
@@ -16,7 +38,7 @@ gains-requires c κs = search needs
 returns : tie.Need-returns
 returns c =
     let f = c .before in
-    let e = f .before .before .before in
+    let e = start-of f in
     let a = e .args in
     let o = f .before .lowest-free in
     augmented-none (a .t .0) (a .spares) (a .cost .now) (a .ts .now) (a .ss .now) (a .rows .now) (a .mates .now) (a .taken .now) (a .tree-dead .now)
@@ -24,40 +46,42 @@ returns c =
 
 seek-requires : tie.Need-seek-requires
 seek-requires c κs =
-    let f = c .before .before .before .before .before .before .before in
-    let e = f .before .before .before in
+    let p = c .before .before .before .before .before .before in
+    let f = p .before in
+    let e = start-of f in
     let a = e .args in
     let o = f .before .lowest-free in
     cheapest-seekable (a .t .0) (a .spares) (a .cost .now) (a .ts .now) (a .ss .now) (a .rows .now) (a .mates .now) (a .taken .now) (a .tree-dead .now)
     (a .live .now) (e .pre) (o .result) (o .ensures)
-    (sym (f .gains .ensures) ∙ not-false (f .gains .result) (c .before .before .before .before .before .before .if1 .left))
+    (cheapest-gains p)
 
 insert-requires : tie.Need-insert-requires
 insert-requires c κs =
-    let f = c .before .before .before .before .before .before .before .before .before .before in
-    let e = f .before .before .before in
+    let p = c .before .before .before .before .before .before .before .before .before in
+    let f = p .before in
+    let e = start-of f in
     let a = e .args in
     let o = f .before .lowest-free in (
       omega (
         arith,
         cheapest-seekable (a .t .0) (a .spares) (a .cost .now) (a .ts .now) (a .ss .now) (a .rows .now) (a .mates .now) (a .taken .now)
             (a .tree-dead .now) (a .live .now) (e .pre) (o .result) (o .ensures)
-            (sym (f .gains .ensures) ∙ not-false (f .gains .result)
-            (c .before .before .before .before .before .before .before .before .before .if1 .left)) .within,
+            (cheapest-gains p) .within,
       ),
       e .pre .live-length,
     )
 
 returns-2 : tie.Need-returns-2
 returns-2 c =
-    let f = c .before .before .before .before .before .before .before .before .before .before .before in
-    let e = f .before .before .before in
+    let p = open-of (c .before .before .before) in
+    let f = p .before in
+    let e = start-of f in
     let a = e .args in
     let o = f .before .lowest-free in
     let d = c .before .before .before .seek in
     augmented-met (a .t .0) (a .spares) (a .cost .now) (a .ts .now) (a .ss .now) (a .rows .now) (a .mates .now) (a .taken .now) (a .tree-dead .now)
     (a .live .now) (e .pre) (o .result) (o .ensures)
-    (sym (f .gains .ensures) ∙ not-false (f .gains .result) (c .before .before .before .before .before .before .before .before .before .before .if1 .left))
+    (cheapest-gains p)
     (d .last .1 .1 .1 .0) (d .last .1 .1 .1 .1 .0) (d .last .1 .1 .1 .1 .1 .0) (d .last .1 .1 .1 .1 .1 .1 .0) (d .result) (d .ensures)
     (c .before .before .if2 .taken)
     (c .insert .last .0) (c .insert .ensures .0) (c .insert .ensures .1)
@@ -74,17 +98,17 @@ gains-requires-2 c κs = search needs
 -- Paths lead to none that gains.
 returns-4 : tie.Need-returns-4
 returns-4 c =
-    let f = c .before .before .before .before .before .before .before .before .before .before .before .before .before .before in
-    let e = f .before .before .before in
+    let p = open-of (seek-of (c .before)) in
+    let f = p .before in
+    let e = start-of f in
     let a = e .args in
     let o = f .before .lowest-free in
-    let d = c .before .before .before .before .before .before .seek in
+    let d = seek-of (c .before) .seek in
     let w = c .before .before .before .before .less in
     let g = c .before .before .lowest-covering in
     augmented-off (a .t .0) (a .spares) (a .cost .now) (a .ts .now) (a .ss .now) (a .rows .now) (a .mates .now) (a .taken .now) (a .tree-dead .now)
     (a .live .now) (e .pre) (o .result) (o .ensures)
-    (sym (f .gains .ensures) ∙ not-false (f .gains .result)
-    (c .before .before .before .before .before .before .before .before .before .before .before .before .before .if1 .left))
+    (cheapest-gains p)
     (d .last .1 .1 .1 .0) (d .last .1 .1 .1 .1 .0) (d .last .1 .1 .1 .1 .1 .0) (d .last .1 .1 .1 .1 .1 .1 .0) (d .result) (d .ensures)
     (c .before .before .before .before .before .if2 .left) (w .result) (omega arith) (w .ensures) (g .result) (g .ensures)
     (sym (c .before .gains2 .ensures) ∙ c .if3 .left)
@@ -92,31 +116,31 @@ returns-4 c =
 -- They lead to one.
 seek-requires-2 : tie.Need-seek-requires-2
 seek-requires-2 c κs =
-    let f = c .before .before .before .before .before .before .before .before .before .before .before .before .before .before .before .before .before .before .before in
-    let e = f .before .before .before in
+    let p = open-of (seek-of (c .before .before .before .before .before .before)) in
+    let f = p .before in
+    let e = start-of f in
     let a = e .args in
     let o = f .before .lowest-free in
-    let d = c .before .before .before .before .before .before .before .before .before .before .before .seek in
+    let d = seek-of (c .before .before .before .before .before .before) .seek in
     let g = c .before .before .before .before .before .before .before .lowest-covering in
     goal-seekable (a .t .0) (a .spares) (a .cost .now) (a .ts .now) (a .ss .now) (a .rows .now) (a .mates .now) (a .taken .now) (a .tree-dead .now)
     (a .live .now) (e .pre) (o .result) (o .ensures)
-    (sym (f .gains .ensures) ∙ not-false (f .gains .result)
-    (c .before .before .before .before .before .before .before .before .before .before .before .before .before .before .before .before .before .before .if1 .left))
+    (cheapest-gains p)
     (d .last .1 .1 .1 .0) (d .last .1 .1 .1 .1 .0) (d .last .1 .1 .1 .1 .1 .0) (d .last .1 .1 .1 .1 .1 .1 .0) (d .result) (d .ensures) (g .result)
     (sym (c .before .before .before .before .before .before .gains2 .ensures) ∙ c .before .before .before .before .before .if3 .taken)
 
 insert-requires-2 : tie.Need-insert-requires-2
 insert-requires-2 c κs =
-    let f = c .before .before .before .before .before .before .before .before .before .before .before .before .before .before .before .before .before .before .before .before .before in
-    let e = f .before .before .before in
+    let p = open-of (seek-of (c .before .before .before .before .before .before .before .before)) in
+    let f = p .before in
+    let e = start-of f in
     let a = e .args in
     let o = f .before .lowest-free in
-    let d = c .before .before .before .before .before .before .before .before .before .before .before .before .before .seek in
+    let d = seek-of (c .before .before .before .before .before .before .before .before) .seek in
     let g = c .before .before .before .before .before .before .before .before .before .lowest-covering in (
       goal-seekable (a .t .0) (a .spares) (a .cost .now) (a .ts .now) (a .ss .now) (a .rows .now) (a .mates .now) (a .taken .now) (a .tree-dead .now)
           (a .live .now) (e .pre) (o .result) (o .ensures)
-          (sym (f .gains .ensures) ∙ not-false (f .gains .result)
-          (c .before .before .before .before .before .before .before .before .before .before .before .before .before .before .before .before .before .before .before .before .if1 .left))
+          (cheapest-gains p)
           (d .last .1 .1 .1 .0) (d .last .1 .1 .1 .1 .0) (d .last .1 .1 .1 .1 .1 .0) (d .last .1 .1 .1 .1 .1 .1 .0) (d .result) (d .ensures) (g .result)
           (sym (c .before .before .before .before .before .before .before .before .gains2 .ensures) ∙
           c .before .before .before .before .before .before .before .if3 .taken) .within,
@@ -125,18 +149,18 @@ insert-requires-2 c κs =
 
 returns-3 : tie.Need-returns-3
 returns-3 c =
-    let f = c .before .before .before .before .before .before .before .before .before .before .before .before .before .before .before .before .before .before .before .before .before .before in
-    let e = f .before .before .before in
+    let p = open-of (seek-of (c .before .before .before .before .before .before .before .before .before)) in
+    let f = p .before in
+    let e = start-of f in
     let a = e .args in
     let o = f .before .lowest-free in
-    let d = c .before .before .before .before .before .before .before .before .before .before .before .before .before .before .seek in
+    let d = seek-of (c .before .before .before .before .before .before .before .before .before) .seek in
     let w = c .before .before .before .before .before .before .before .before .before .before .before .before .less in
     let g = c .before .before .before .before .before .before .before .before .before .before .lowest-covering in
     let h = c .before .before .seek2 in
     augmented-on (a .t .0) (a .spares) (a .cost .now) (a .ts .now) (a .ss .now) (a .rows .now) (a .mates .now) (a .taken .now) (a .tree-dead .now)
     (a .live .now) (e .pre) (o .result) (o .ensures)
-    (sym (f .gains .ensures) ∙ not-false (f .gains .result)
-    (c .before .before .before .before .before .before .before .before .before .before .before .before .before .before .before .before .before .before .before .before .before .if1 .left))
+    (cheapest-gains p)
     (d .last .1 .1 .1 .0) (d .last .1 .1 .1 .1 .0) (d .last .1 .1 .1 .1 .1 .0) (d .last .1 .1 .1 .1 .1 .1 .0) (d .result) (d .ensures)
     (c .before .before .before .before .before .before .before .before .before .before .before .before .before .if2 .left) (w .result) (omega arith)
     (w .ensures) (g .result) (g .ensures) (sym (c .before .before .before .before .before .before .before .before .before .gains2 .ensures) ∙

@@ -26,9 +26,11 @@ use prog.Wp.{Heap, Out, Env, afterSeq, afterBlock, afterTurn, Calls, Loops, Wp, 
 use ghost.Atoms.{Atoms, sem}
 use contract.Monad.{Fun, fact}
 use contract.Running.{givenOf, tables, tablesOf}
-use types.Kit.{Given, Item, ‵, raw, _⊛_, ⋆, runs, anyQ, atRet, Sq, some, later, _$_, _∵_, !, qed, by, move, keep, drop, use0, use1, split, join, pick, rewrite, fsplit, fjoin, suffices, frame, await, done}
+use types.Kit.{Given, Item, ‵, raw, _⊛_, ⋆, runs, anyQ, atRet, Sq, some, later, _$_, _∵_, !, qed}
+use types.Kit.{by, move, keep, drop, use0, use1, split, join, pick, rewrite, fsplit, fjoin, suffices, frame, await, done}
 use types.Part.{whole, sub, look-in}
-use types.Run.{look, look-raw, store, init, forget, stop, hop, fld, from, load, lit, true-lit, of-opd, bin, and-then, no-more, assigns, assigns-last, land, first as first-part, stays, leaves-loop, blocks, returns, enter, alloc1, alloc0, params1, pass1, pass0, free0, exec, Below, again, loops}
+use types.Run.{look, look-raw, store, init, forget, stop, hop, fld, from, load, lit, true-lit, of-opd, bin, and-then, no-more, assigns, assigns-last}
+use types.Run.{land, first as first-part, stays, leaves-loop, blocks, returns, enter, alloc1, alloc0, params1, pass1, pass0, free0, exec, Below, again, loops}
 use types.Share.{arr-parts}
 use sound.WpLaws.{fmOf, WpFn-mono}
 use denote.RattleType.{owns}

@@ -27,9 +27,12 @@ use prog.Wp.{Heap, Out, Env, afterSeq, afterBlock, afterTurn, Calls, Loops, Wp, 
 use ghost.Atoms.{Atoms}
 use contract.Monad.{Fun}
 use contract.Running.{givenOf, tables, tablesOf}
-use types.Kit.{Given, Item, ‵, _⊛_, ⋆, runs, anyQ, atRet, Sq, _$_, _∵_, !, qed, by, move, keep, drop, use1, split, join, rewrite, fsplit, fjoin, suffices, frame, done}
+use types.Kit.{Given, Item, ‵, _⊛_, ⋆, runs, anyQ, atRet, Sq, _$_, _∵_, !, qed}
+use types.Kit.{by, move, keep, drop, use1, split, join, rewrite, fsplit, fjoin, suffices, frame, done}
 use types.Part.{whole as cell, sub, look-in, agg, rep}
-use types.Run.{look, look-raw, store, store-raw, init, forget, stop, hop, fld, from, load as reads, lit, of-opd, bin, addr, and-then, no-more, assigns, assigns-last, land, first as first-part, stays, leaves-loop, blocks, returns, enter, alloc1, alloc0, params1, pass1, pass0, free1, free0, exec, Below, again, loops}
+use types.Run.{look, look-raw, store, store-raw, init, forget, stop, hop, fld, from, load as reads, lit, of-opd}
+use types.Run.{bin, addr, and-then, no-more, assigns, assigns-last, land, first as first-part, stays, leaves-loop, blocks, returns, enter}
+use types.Run.{alloc1, alloc0, params1, pass1, pass0, free1, free0, exec, Below, again, loops}
 use types.Share.{arr-parts}
 use sound.WpLaws.{WpFn-mono}
 use denote.RattleType.{RattleType, owns}
@@ -51,7 +54,8 @@ use denote.Exit.{yes as kept}
 use Rattle.records.specs.declared.Link.{Link}
 use Rattle.records.specs.Records.{zeroLink, firstLinks, copied}
 use Rattle.records.specs.RecordsLaws.{copied-none, copied-more, copied-all, copied-length, firsts-length}
-use Rattle.records.proofs.LinkRows.{R, AtMost, counts, word, slice, fits16, less, zero-is, zeros-typed, zeros-apart, held as links-value, whole, gone, gone-room}
+use Rattle.records.proofs.LinkRows.{R, AtMost, counts, word, slice, fits16, less}
+use Rattle.records.proofs.LinkRows.{zero-is, zeros-typed, zeros-apart, held as links-value, whole, gone, gone-room}
 use Rattle.records.proofs.Link as T
 use Rattle.records.proofs.Link.Laws as T′
 use Rattle.records.proofs.at_most.Symbol as at-most-def
@@ -254,7 +258,8 @@ module _ {M : Type 1} (𝓤 : URA M) (H : Heap 𝓤) (A : Atoms 𝓤) (W : Given
       move ! (31 ∷ []) $ split ! $ move ! (2 ∷ 0 ∷ []) $
       looks-slice ! tt R (Is R) (shows 𝓤 H A R) (LL.vals T.the-type T′.the-laws) (LL.tells T.the-type T′.the-laws)
       (LL.copy T.the-type T′.the-copy 𝓤 H A W) ys b o (λ q′.
-      keep ! (0 ∷ 1 ∷ 4 ∷ 6 ∷ 7 ∷ 8 ∷ 9 ∷ 10 ∷ 11 ∷ 12 ∷ 13 ∷ 14 ∷ 15 ∷ 16 ∷ 17 ∷ 18 ∷ 19 ∷ 20 ∷ 21 ∷ 22 ∷ 23 ∷ 24 ∷ 25 ∷ 26 ∷ 27 ∷ 28 ∷ 29 ∷ 30 ∷ 31 ∷ 32 ∷ 33 ∷ []) $ first-part ! $ blocks ! $
+      keep ! (0 ∷ 1 ∷ 4 ∷ 6 ∷ 7 ∷ 8 ∷ 9 ∷ 10 ∷ 11 ∷ 12 ∷ 13 ∷ 14 ∷ 15 ∷ 16 ∷ 17 ∷ 18 ∷ 19 ∷ 20 ∷ 21 ∷ 22 ∷ 23 ∷ 24 ∷ 25 ∷ 26 ∷ 27 ∷ 28 ∷ 29 ∷ 30 ∷ 31 ∷ 32 ∷ 33 ∷ []) $
+      first-part ! $ blocks ! $
       loops ! 𝓣 (Nearer n which) (Nearer-wf n which) (At n which 𝓣 (p .0 .1) q′ l₀ l₁ l₂ l₃ l₄ l₅ l₆ l₇ l₈ l₉ k₀ k₁ k₂ k₃)
       (turns n which 𝓣 (p .0 .1) q′ l₀ l₁ l₂ l₃ l₄ l₅ l₆ l₇ l₈ l₉ k₀ k₁ k₂ k₃) (0, zero-le)))))))))))))))))
 

@@ -1,6 +1,6 @@
--- The proof of the cycle of calls {try_spare, try_tree}. The measure of both is the number of unvisited ranks, tree ranks and spare ranks together: each
--- visits its own rank before it calls the other. The loop's invariant: the model's loop, run on the present state, gives what it gives on the first.
--- Assumes nothing.
+-- The proof of the cycle of calls {try_spare, try_tree}. The measure of both is the number of unvisited ranks, tree ranks and
+-- spare ranks together: each visits its own rank before it calls the other. The loop's invariant: the model's loop, run on the
+-- present state, gives what it gives on the first. Assumes nothing.
 use Prim.Native.Nat.{ℕ, _+_, _-_, _<_}
 use native.Mathlib.Omega.{arith}
 use mathlib.Core.Path.{sym, _∙_}
@@ -9,7 +9,8 @@ use Rattle.sets.specs.Sets.{member}
 use Rattle.graph.specs.Graph.{count}
 use Rattle.search.specs.State.{unvisited}
 use Rattle.search.specs.SpareSteps.{below-set, spare-visited, spare-free, spare-seen, spare-led, spare-failed}
-use Rattle.search.specs.TreeSteps.{goal-within, tree-hit, Entered, Passing, passing-start, passing-end, passing-met, passing-turn, passing-less, tree-visited, next-hit}
+use Rattle.search.specs.TreeSteps.{goal-within, tree-hit, Entered, Passing, passing-start, passing-end}
+use Rattle.search.specs.TreeSteps.{passing-met, passing-turn, passing-less, tree-visited, next-hit}
 use borrow.Fn.Kinds.{In}
 use borrow.Fn.PlainCycle.{Measures, is, falls, and}
 use Rattle.search.proofs.try_spare.Reads as try-spare
@@ -46,54 +47,26 @@ abbrev try-tree-below : ℕ → In 4 try-tree-kinds.ps
 try-tree-below t =
     and 4 try-tree-kinds.ps (falls 4 try-tree-kinds.ps _<_ μ-try-tree t) try-tree.Pre
 
-try-spare-remove-requires : (t : ℕ) → try-spare-lts.Need-remove-requires (
-  remove-reads.Asked,
-  remove-reads.Learnt,
-  has-reads.Asked,
-  has-reads.Learnt,
-  try-tree-below t,
-  try-tree.Post,
-) (try-spare-at t) try-spare.Post
+-- what each asks of the functions that it calls, and learns of them
+abbrev spare-callees : ℕ → try-spare-lts.Claims
+spare-callees t = (remove-reads.Asked, remove-reads.Learnt, has-reads.Asked, has-reads.Learnt, try-tree-below t, try-tree.Post)
+
+abbrev tree-callees : ℕ → try-tree-lts.Claims
+tree-callees t = (goal-covers-reads.Asked, goal-covers-reads.Learnt, with-reads.Asked, with-reads.Learnt, next-reads.Asked, next-reads.Learnt, try-spare-below t, try-spare.Post)
+
+try-spare-remove-requires : (t : ℕ) → try-spare-lts.Need-remove-requires (spare-callees t) (try-spare-at t) try-spare.Post
 try-spare-remove-requires t c κs = (omega (arith, c .before .pre .1 .0), c .before .pre .1 .2 .live-length)
 
-try-spare-cast-k : (t : ℕ) → try-spare-lts.Need-cast-k (
-  remove-reads.Asked,
-  remove-reads.Learnt,
-  has-reads.Asked,
-  has-reads.Learnt,
-  try-tree-below t,
-  try-tree.Post,
-) (try-spare-at t) try-spare.Post
+try-spare-cast-k : (t : ℕ) → try-spare-lts.Need-cast-k (spare-callees t) (try-spare-at t) try-spare.Post
 try-spare-cast-k t c = omega arith
 
-try-spare-mul-mate : (t : ℕ) → try-spare-lts.Need-mul-mate (
-  remove-reads.Asked,
-  remove-reads.Learnt,
-  has-reads.Asked,
-  has-reads.Learnt,
-  try-tree-below t,
-  try-tree.Post,
-) (try-spare-at t) try-spare.Post
+try-spare-mul-mate : (t : ℕ) → try-spare-lts.Need-mul-mate (spare-callees t) (try-spare-at t) try-spare.Post
 try-spare-mul-mate t c = omega arith
 
-try-spare-element-copy-out-mate : (t : ℕ) → try-spare-lts.Need-element-copy-out-mate (
-  remove-reads.Asked,
-  remove-reads.Learnt,
-  has-reads.Asked,
-  has-reads.Learnt,
-  try-tree-below t,
-  try-tree.Post,
-) (try-spare-at t) try-spare.Post
+try-spare-element-copy-out-mate : (t : ℕ) → try-spare-lts.Need-element-copy-out-mate (spare-callees t) (try-spare-at t) try-spare.Post
 try-spare-element-copy-out-mate t c = omega arith
 
-try-spare-returns : (t : ℕ) → try-spare-lts.Need-returns (
-  remove-reads.Asked,
-  remove-reads.Learnt,
-  has-reads.Asked,
-  has-reads.Learnt,
-  try-tree-below t,
-  try-tree.Post,
-) (try-spare-at t) try-spare.Post
+try-spare-returns : (t : ℕ) → try-spare-lts.Need-returns (spare-callees t) (try-spare-at t) try-spare.Post
 try-spare-returns t c =
     let e = c .before .before .before .before .before in
     let a = e .args in
@@ -101,36 +74,15 @@ try-spare-returns t c =
     spare-free (a .t .0) (a .s .0) (a .goal .0) (a .rows .now) (a .mates .now) (a .tree-seen .now) (a .live .now) (i .last .0) (e .pre .1 .0)
     (e .pre .1 .2 .mates-length) (i .ensures .1) (i .ensures .0) (c .if1 .taken)
 
-try-spare-sub-has : (t : ℕ) → try-spare-lts.Need-sub-has (
-  remove-reads.Asked,
-  remove-reads.Learnt,
-  has-reads.Asked,
-  has-reads.Learnt,
-  try-tree-below t,
-  try-tree.Post,
-) (try-spare-at t) try-spare.Post
+try-spare-sub-has : (t : ℕ) → try-spare-lts.Need-sub-has (spare-callees t) (try-spare-at t) try-spare.Post
 try-spare-sub-has t c = omega (arith, c .before .if1 .left)
 
-try-spare-has-requires : (t : ℕ) → try-spare-lts.Need-has-requires (
-  remove-reads.Asked,
-  remove-reads.Learnt,
-  has-reads.Asked,
-  has-reads.Learnt,
-  try-tree-below t,
-  try-tree.Post,
-) (try-spare-at t) try-spare.Post
+try-spare-has-requires : (t : ℕ) → try-spare-lts.Need-has-requires (spare-callees t) (try-spare-at t) try-spare.Post
 try-spare-has-requires t c κs =
     let e = c .before .before .before .before .before .before in
     omega (arith, e .pre .1 .2 .below (e .args .s .0))
 
-try-spare-returns-2 : (t : ℕ) → try-spare-lts.Need-returns-2 (
-  remove-reads.Asked,
-  remove-reads.Learnt,
-  has-reads.Asked,
-  has-reads.Learnt,
-  try-tree-below t,
-  try-tree.Post,
-) (try-spare-at t) try-spare.Post
+try-spare-returns-2 : (t : ℕ) → try-spare-lts.Need-returns-2 (spare-callees t) (try-spare-at t) try-spare.Post
 try-spare-returns-2 t c =
     let e = c .before .before .before .before .before .before .before .before in
     let a = e .args in
@@ -139,54 +91,19 @@ try-spare-returns-2 t c =
     (e .pre .1 .2 .mates-length) (i .ensures .1) (i .ensures .0) (c .before .before .before .if1 .left)
     (sym (c .before .has .ensures) ∙ c .if2 .taken)
 
-try-spare-add-mates : (t : ℕ) → try-spare-lts.Need-add-mates (
-  remove-reads.Asked,
-  remove-reads.Learnt,
-  has-reads.Asked,
-  has-reads.Learnt,
-  try-tree-below t,
-  try-tree.Post,
-) (try-spare-at t) try-spare.Post
+try-spare-add-mates : (t : ℕ) → try-spare-lts.Need-add-mates (spare-callees t) (try-spare-at t) try-spare.Post
 try-spare-add-mates t c = omega (arith, c .before .before .before .before .before .before .before .before .before .pre .1 .2 .rank)
 
-try-spare-mul-mates : (t : ℕ) → try-spare-lts.Need-mul-mates (
-  remove-reads.Asked,
-  remove-reads.Learnt,
-  has-reads.Asked,
-  has-reads.Learnt,
-  try-tree-below t,
-  try-tree.Post,
-) (try-spare-at t) try-spare.Post
+try-spare-mul-mates : (t : ℕ) → try-spare-lts.Need-mul-mates (spare-callees t) (try-spare-at t) try-spare.Post
 try-spare-mul-mates t c = omega arith
 
-try-spare-element-write-mates : (t : ℕ) → try-spare-lts.Need-element-write-mates (
-  remove-reads.Asked,
-  remove-reads.Learnt,
-  has-reads.Asked,
-  has-reads.Learnt,
-  try-tree-below t,
-  try-tree.Post,
-) (try-spare-at t) try-spare.Post
+try-spare-element-write-mates : (t : ℕ) → try-spare-lts.Need-element-write-mates (spare-callees t) (try-spare-at t) try-spare.Post
 try-spare-element-write-mates t c = omega arith
 
-try-spare-sub-t15 : (t : ℕ) → try-spare-lts.Need-sub-t15 (
-  remove-reads.Asked,
-  remove-reads.Learnt,
-  has-reads.Asked,
-  has-reads.Learnt,
-  try-tree-below t,
-  try-tree.Post,
-) (try-spare-at t) try-spare.Post
+try-spare-sub-t15 : (t : ℕ) → try-spare-lts.Need-sub-t15 (spare-callees t) (try-spare-at t) try-spare.Post
 try-spare-sub-t15 t c = omega (arith, c .before .before .before .before .if1 .left)
 
-try-spare-try-tree-requires : (t : ℕ) → try-spare-lts.Need-try-tree-requires (
-  remove-reads.Asked,
-  remove-reads.Learnt,
-  has-reads.Asked,
-  has-reads.Learnt,
-  try-tree-below t,
-  try-tree.Post,
-) (try-spare-at t) try-spare.Post
+try-spare-try-tree-requires : (t : ℕ) → try-spare-lts.Need-try-tree-requires (spare-callees t) (try-spare-at t) try-spare.Post
 try-spare-try-tree-requires t c κs =
     let e = c .before .before .before .before .before .before .before .before .before .before .before .before in
     let a = e .args in
@@ -206,14 +123,7 @@ try-spare-try-tree-requires t c κs =
       ),
     )
 
-try-spare-returns-3 : (t : ℕ) → try-spare-lts.Need-returns-3 (
-  remove-reads.Asked,
-  remove-reads.Learnt,
-  has-reads.Asked,
-  has-reads.Learnt,
-  try-tree-below t,
-  try-tree.Post,
-) (try-spare-at t) try-spare.Post
+try-spare-returns-3 : (t : ℕ) → try-spare-lts.Need-returns-3 (spare-callees t) (try-spare-at t) try-spare.Post
 try-spare-returns-3 t c =
     let e = c .before .before .before .before .before .before .before .before .before .before .before .before .before .before in
     let a = e .args in
@@ -224,34 +134,13 @@ try-spare-returns-3 t c =
     (c .before .try-tree .last .1 .1 .1 .0) (c .before .try-tree .last .1 .1 .1 .1 .0) (c .before .try-tree .last .1 .1 .1 .1 .1 .0)
     (rw (c .if3 .taken) at (c .before .try-tree .ensures))
 
-try-spare-mul-mates-2 : (t : ℕ) → try-spare-lts.Need-mul-mates-2 (
-  remove-reads.Asked,
-  remove-reads.Learnt,
-  has-reads.Asked,
-  has-reads.Learnt,
-  try-tree-below t,
-  try-tree.Post,
-) (try-spare-at t) try-spare.Post
+try-spare-mul-mates-2 : (t : ℕ) → try-spare-lts.Need-mul-mates-2 (spare-callees t) (try-spare-at t) try-spare.Post
 try-spare-mul-mates-2 t c = omega arith
 
-try-spare-element-write-mates-2 : (t : ℕ) → try-spare-lts.Need-element-write-mates-2 (
-  remove-reads.Asked,
-  remove-reads.Learnt,
-  has-reads.Asked,
-  has-reads.Learnt,
-  try-tree-below t,
-  try-tree.Post,
-) (try-spare-at t) try-spare.Post
+try-spare-element-write-mates-2 : (t : ℕ) → try-spare-lts.Need-element-write-mates-2 (spare-callees t) (try-spare-at t) try-spare.Post
 try-spare-element-write-mates-2 t c = omega arith
 
-try-spare-returns-4 : (t : ℕ) → try-spare-lts.Need-returns-4 (
-  remove-reads.Asked,
-  remove-reads.Learnt,
-  has-reads.Asked,
-  has-reads.Learnt,
-  try-tree-below t,
-  try-tree.Post,
-) (try-spare-at t) try-spare.Post
+try-spare-returns-4 : (t : ℕ) → try-spare-lts.Need-returns-4 (spare-callees t) (try-spare-at t) try-spare.Post
 try-spare-returns-4 t c =
     let e = c .before .before .before .before .before .before .before .before .before .before .before .before .before .before in
     let a = e .args in
@@ -269,64 +158,19 @@ try-tree-Inv-loop t goal rows mates₀ tree-seen₀ live₀ mates tree-seen live
 abbrev try-tree-μ-loop : try-tree-lts.MeasureT-loop
 try-tree-μ-loop t goal rows mates₀ tree-seen₀ live₀ mates tree-seen live = count 256 (member live)
 
-try-tree-goal-covers-requires : (t : ℕ) → try-tree-lts.Need-goal-covers-requires (
-  goal-covers-reads.Asked,
-  goal-covers-reads.Learnt,
-  with-reads.Asked,
-  with-reads.Learnt,
-  next-reads.Asked,
-  next-reads.Learnt,
-  try-spare-below t,
-  try-spare.Post,
-) (try-tree-at t) try-tree.Post try-tree-Inv-loop try-tree-μ-loop
+try-tree-goal-covers-requires : (t : ℕ) → try-tree-lts.Need-goal-covers-requires (tree-callees t) (try-tree-at t) try-tree.Post try-tree-Inv-loop try-tree-μ-loop
 try-tree-goal-covers-requires t c κs = c .pre .1 .1 .rank
 
-try-tree-add-mates : (t : ℕ) → try-tree-lts.Need-add-mates (
-  goal-covers-reads.Asked,
-  goal-covers-reads.Learnt,
-  with-reads.Asked,
-  with-reads.Learnt,
-  next-reads.Asked,
-  next-reads.Learnt,
-  try-spare-below t,
-  try-spare.Post,
-) (try-tree-at t) try-tree.Post try-tree-Inv-loop try-tree-μ-loop
+try-tree-add-mates : (t : ℕ) → try-tree-lts.Need-add-mates (tree-callees t) (try-tree-at t) try-tree.Post try-tree-Inv-loop try-tree-μ-loop
 try-tree-add-mates t c = omega (arith, c .before .before .before .pre .1 .1 .rank)
 
-try-tree-cast-mates : (t : ℕ) → try-tree-lts.Need-cast-mates (
-  goal-covers-reads.Asked,
-  goal-covers-reads.Learnt,
-  with-reads.Asked,
-  with-reads.Learnt,
-  next-reads.Asked,
-  next-reads.Learnt,
-  try-spare-below t,
-  try-spare.Post,
-) (try-tree-at t) try-tree.Post try-tree-Inv-loop try-tree-μ-loop
+try-tree-cast-mates : (t : ℕ) → try-tree-lts.Need-cast-mates (tree-callees t) (try-tree-at t) try-tree.Post try-tree-Inv-loop try-tree-μ-loop
 try-tree-cast-mates t c = omega arith
 
-try-tree-mul-mates : (t : ℕ) → try-tree-lts.Need-mul-mates (
-  goal-covers-reads.Asked,
-  goal-covers-reads.Learnt,
-  with-reads.Asked,
-  with-reads.Learnt,
-  next-reads.Asked,
-  next-reads.Learnt,
-  try-spare-below t,
-  try-spare.Post,
-) (try-tree-at t) try-tree.Post try-tree-Inv-loop try-tree-μ-loop
+try-tree-mul-mates : (t : ℕ) → try-tree-lts.Need-mul-mates (tree-callees t) (try-tree-at t) try-tree.Post try-tree-Inv-loop try-tree-μ-loop
 try-tree-mul-mates t c = omega arith
 
-try-tree-element-write-mates : (t : ℕ) → try-tree-lts.Need-element-write-mates (
-  goal-covers-reads.Asked,
-  goal-covers-reads.Learnt,
-  with-reads.Asked,
-  with-reads.Learnt,
-  next-reads.Asked,
-  next-reads.Learnt,
-  try-spare-below t,
-  try-spare.Post,
-) (try-tree-at t) try-tree.Post try-tree-Inv-loop try-tree-μ-loop
+try-tree-element-write-mates : (t : ℕ) → try-tree-lts.Need-element-write-mates (tree-callees t) (try-tree-at t) try-tree.Post try-tree-Inv-loop try-tree-μ-loop
 try-tree-element-write-mates t c =
     let a = c .before .before .before .before .args in
     omega (
@@ -335,45 +179,18 @@ try-tree-element-write-mates t c =
           (sym (c .before .before .before .goal-covers .ensures) ∙ c .before .before .if1 .taken),
     )
 
-try-tree-returns : (t : ℕ) → try-tree-lts.Need-returns (
-  goal-covers-reads.Asked,
-  goal-covers-reads.Learnt,
-  with-reads.Asked,
-  with-reads.Learnt,
-  next-reads.Asked,
-  next-reads.Learnt,
-  try-spare-below t,
-  try-spare.Post,
-) (try-tree-at t) try-tree.Post try-tree-Inv-loop try-tree-μ-loop
+try-tree-returns : (t : ℕ) → try-tree-lts.Need-returns (tree-callees t) (try-tree-at t) try-tree.Post try-tree-Inv-loop try-tree-μ-loop
 try-tree-returns t c =
     let e = c .before .before .before .before in
     let a = e .args in
     tree-hit (a .t .0) (a .goal .0) (a .rows .now) (a .mates .now) (a .tree-seen .now) (a .live .now)
     (sym (c .before .before .before .goal-covers .ensures) ∙ c .before .before .if1 .taken) (e .pre .1 .1 .mates-length) (e .pre .1 .1 .live-length)
 
-try-tree-with-requires : (t : ℕ) → try-tree-lts.Need-with-requires (
-  goal-covers-reads.Asked,
-  goal-covers-reads.Learnt,
-  with-reads.Asked,
-  with-reads.Learnt,
-  next-reads.Asked,
-  next-reads.Learnt,
-  try-spare-below t,
-  try-spare.Post,
-) (try-tree-at t) try-tree.Post try-tree-Inv-loop try-tree-μ-loop
+try-tree-with-requires : (t : ℕ) → try-tree-lts.Need-with-requires (tree-callees t) (try-tree-at t) try-tree.Post try-tree-Inv-loop try-tree-μ-loop
 try-tree-with-requires t c κs = omega (arith, c .before .before .before .pre .1 .1 .rank)
 
 -- Tree rank t is entered before the loop.
-try-tree-entered : (t : ℕ) (f : try-tree-lts.After-with (
-  goal-covers-reads.Asked,
-  goal-covers-reads.Learnt,
-  with-reads.Asked,
-  with-reads.Learnt,
-  next-reads.Asked,
-  next-reads.Learnt,
-  try-spare-below t,
-  try-spare.Post,
-) (try-tree-at t) try-tree.Post try-tree-Inv-loop try-tree-μ-loop) → let a = f .before .before .before .before .args in
+try-tree-entered : (t : ℕ) (f : try-tree-lts.After-with (tree-callees t) (try-tree-at t) try-tree.Post try-tree-Inv-loop try-tree-μ-loop) → let a = f .before .before .before .before .args in
     Entered (a .t .0) (a .goal .0) (a .rows .now) (a .tree-seen .now) (f .with .result)
 try-tree-entered t f =
     record {
@@ -381,16 +198,7 @@ try-tree-entered t f =
       marked = f .with .ensures;
     }
 
-try-tree-loop-holds : (t : ℕ) → try-tree-lts.Need-loop-holds (
-  goal-covers-reads.Asked,
-  goal-covers-reads.Learnt,
-  with-reads.Asked,
-  with-reads.Learnt,
-  next-reads.Asked,
-  next-reads.Learnt,
-  try-spare-below t,
-  try-spare.Post,
-) (try-tree-at t) try-tree.Post try-tree-Inv-loop try-tree-μ-loop
+try-tree-loop-holds : (t : ℕ) → try-tree-lts.Need-loop-holds (tree-callees t) (try-tree-at t) try-tree.Post try-tree-Inv-loop try-tree-μ-loop
 try-tree-loop-holds t c =
     let f = c in
     let e = f .before .before .before .before in
@@ -399,28 +207,10 @@ try-tree-loop-holds t c =
     passing-start (a .t .0) (a .goal .0) (a .rows .now) (a .mates .now) (a .tree-seen .now) (a .live .now) (f .with .result) en (e .pre .1 .1 .mates-length)
     (e .pre .1 .1 .live-length)
 
-try-tree-next-requires : (t : ℕ) → try-tree-lts.Need-next-requires (
-  goal-covers-reads.Asked,
-  goal-covers-reads.Learnt,
-  with-reads.Asked,
-  with-reads.Learnt,
-  next-reads.Asked,
-  next-reads.Learnt,
-  try-spare-below t,
-  try-spare.Post,
-) (try-tree-at t) try-tree.Post try-tree-Inv-loop try-tree-μ-loop
+try-tree-next-requires : (t : ℕ) → try-tree-lts.Need-next-requires (tree-callees t) (try-tree-at t) try-tree.Post try-tree-Inv-loop try-tree-μ-loop
 try-tree-next-requires t c κs = c .before .before .before .before .before .before .pre .1 .1 .rank
 
-try-tree-returns-2 : (t : ℕ) → try-tree-lts.Need-returns-2 (
-  goal-covers-reads.Asked,
-  goal-covers-reads.Learnt,
-  with-reads.Asked,
-  with-reads.Learnt,
-  next-reads.Asked,
-  next-reads.Learnt,
-  try-spare-below t,
-  try-spare.Post,
-) (try-tree-at t) try-tree.Post try-tree-Inv-loop try-tree-μ-loop
+try-tree-returns-2 : (t : ℕ) → try-tree-lts.Need-returns-2 (tree-callees t) (try-tree-at t) try-tree.Post try-tree-Inv-loop try-tree-μ-loop
 try-tree-returns-2 t c =
     let f = c .before .before .before .before in
     let e = f .before .before .before .before in
@@ -430,16 +220,7 @@ try-tree-returns-2 t c =
     passing-end (a .t .0) (a .goal .0) (a .rows .now) (a .mates .now) (a .tree-seen .now) (a .live .now) (f .with .result) en (l .mates) (l .tree-seen)
     (l .live) (l .inv) (c .before .next .result) (c .before .next .ensures) (c .if2 .taken)
 
-try-tree-try-spare-requires : (t : ℕ) → try-tree-lts.Need-try-spare-requires (
-  goal-covers-reads.Asked,
-  goal-covers-reads.Learnt,
-  with-reads.Asked,
-  with-reads.Learnt,
-  next-reads.Asked,
-  next-reads.Learnt,
-  try-spare-below t,
-  try-spare.Post,
-) (try-tree-at t) try-tree.Post try-tree-Inv-loop try-tree-μ-loop
+try-tree-try-spare-requires : (t : ℕ) → try-tree-lts.Need-try-spare-requires (tree-callees t) (try-tree-at t) try-tree.Post try-tree-Inv-loop try-tree-μ-loop
 try-tree-try-spare-requires t c κs =
     let f = c .before .before .before .before .before .before .before in
     let e = f .before .before .before .before in
@@ -466,16 +247,7 @@ try-tree-try-spare-requires t c κs =
       ),
     )
 
-try-tree-returns-3 : (t : ℕ) → try-tree-lts.Need-returns-3 (
-  goal-covers-reads.Asked,
-  goal-covers-reads.Learnt,
-  with-reads.Asked,
-  with-reads.Learnt,
-  next-reads.Asked,
-  next-reads.Learnt,
-  try-spare-below t,
-  try-spare.Post,
-) (try-tree-at t) try-tree.Post try-tree-Inv-loop try-tree-μ-loop
+try-tree-returns-3 : (t : ℕ) → try-tree-lts.Need-returns-3 (tree-callees t) (try-tree-at t) try-tree.Post try-tree-Inv-loop try-tree-μ-loop
 try-tree-returns-3 t c =
     let f = c .before .before .before .before .before .before .before .before .before in
     let e = f .before .before .before .before in
@@ -490,16 +262,7 @@ try-tree-returns-3 t c =
     (r .last .1 .1 .1 .1 .1 .1 .0)
     (rw (c .if3 .taken) at (r .ensures))
 
-try-tree-loop-less : (t : ℕ) → try-tree-lts.Need-loop-less (
-  goal-covers-reads.Asked,
-  goal-covers-reads.Learnt,
-  with-reads.Asked,
-  with-reads.Learnt,
-  next-reads.Asked,
-  next-reads.Learnt,
-  try-spare-below t,
-  try-spare.Post,
-) (try-tree-at t) try-tree.Post try-tree-Inv-loop try-tree-μ-loop
+try-tree-loop-less : (t : ℕ) → try-tree-lts.Need-loop-less (tree-callees t) (try-tree-at t) try-tree.Post try-tree-Inv-loop try-tree-μ-loop
 try-tree-loop-less t c =
     let f = c .before .before .before .before .before .before .before .before .before in
     let e = f .before .before .before .before in
@@ -514,16 +277,7 @@ try-tree-loop-less t c =
     (r .last .1 .1 .1 .1 .1 .1 .0)
     (rw (c .if3 .left) at (r .ensures))
 
-try-tree-loop-again : (t : ℕ) → try-tree-lts.Need-loop-again (
-  goal-covers-reads.Asked,
-  goal-covers-reads.Learnt,
-  with-reads.Asked,
-  with-reads.Learnt,
-  next-reads.Asked,
-  next-reads.Learnt,
-  try-spare-below t,
-  try-spare.Post,
-) (try-tree-at t) try-tree.Post try-tree-Inv-loop try-tree-μ-loop
+try-tree-loop-again : (t : ℕ) → try-tree-lts.Need-loop-again (tree-callees t) (try-tree-at t) try-tree.Post try-tree-Inv-loop try-tree-μ-loop
 try-tree-loop-again t c =
     let f = c .before .before .before .before .before .before .before .before .before in
     let e = f .before .before .before .before in
@@ -539,14 +293,7 @@ try-tree-loop-again t c =
     (rw (c .if3 .left) at (r .ensures))
 
 pub +try-spare+try-tree-spec : {M : Type 1} → statement M
-+try-spare+try-tree-spec = close μ-try-spare μ-try-tree (λ t. try-spare-lts.spec (
-  remove-reads.Asked,
-  remove-reads.Learnt,
-  has-reads.Asked,
-  has-reads.Learnt,
-  try-tree-below t,
-  try-tree.Post,
-)
++try-spare+try-tree-spec = close μ-try-spare μ-try-tree (λ t. try-spare-lts.spec (spare-callees t)
     (try-spare-at t)
     try-spare.Post
     (try-spare-remove-requires t)

@@ -41,7 +41,8 @@ returns-2 c =
       arith,
       c .highest2 .ensures,
       top-word (s .args .a ∷ s .args .b ∷ s .args .c ∷ s .args .d ∷ []) 2 (omega arith)
-          (clear-fourth (s .args .a ∷ s .args .b ∷ s .args .c ∷ s .args .d ∷ []) (omega (arith, c .before .before .if1 .left))) (omega arith) (s .fits .c .fits),
+          (clear-fourth (s .args .a ∷ s .args .b ∷ s .args .c ∷ s .args .d ∷ [])
+          (omega (arith, c .before .before .if1 .left))) (omega arith) (s .fits .c .fits),
     )
 
 highest-requires-3 : tie.Need-highest-requires-3

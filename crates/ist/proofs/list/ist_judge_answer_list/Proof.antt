@@ -16,7 +16,8 @@ use prog.Wp.{Heap, WpFn, Tables}
 use ghost.Atoms.{Atoms, sem}
 use contract.Monad.{Fun, fact}
 use contract.Running.{givenOf, tables, tablesOf}
-use types.Kit.{Given, Item, ‵, raw, _⊛_, ⋆, some, later, _$_, _∵_, !, qed, by, move, drop, use1, use2, split, join, pick, fsplit, fjoin, suffices, frame, await, done}
+use types.Kit.{Given, Item, ‵, raw, _⊛_, ⋆, some, later, _$_, _∵_, !, qed, by}
+use types.Kit.{move, drop, use1, use2, split, join, pick, fsplit, fjoin, suffices, frame, await, done}
 use types.Part.{whole, sub, look-in}
 use types.Run.{look, init, stop, fld, from, load, of-opd, and-then, no-more, assigns, land, returns, enter, alloc1, alloc0, params1, pass1, pass0, free0}
 use sound.WpLaws.{fmOf, WpFn-mono}
@@ -115,7 +116,8 @@ module _ {M : Type 1} (𝓤 : URA M) (H : Heap 𝓤) (A : Atoms 𝓤) (W : Given
 
   said :
       (r : i32 .Denot) →
-      ent 𝓤 (ensured 𝓤 H A core.ended (core.clauses 𝓤 H A mem run) (κ₁, tt) given-core tt r) (fact 𝓤 (Of (length (now s)) (allSmall (now s)) (firstLinks 256 (now s)) (λ ys. Φ n ys (now x) r)))
+      ent 𝓤 (ensured 𝓤 H A core.ended (core.clauses 𝓤 H A mem run) (κ₁, tt) given-core tt r)
+      (fact 𝓤 (Of (length (now s)) (allSmall (now s)) (firstLinks 256 (now s)) (λ ys. Φ n ys (now x) r)))
   said r =
       exE 𝓤 _ (λ ws. snd∗ 𝓤 (sem 𝓤 H A (lasts core.ended (κ₁, tt) given-core ws))
       (fact 𝓤 (Of (length (now s)) (allSmall (now s)) (firstLinks 256 (now s)) (λ ys. Φ n ys (now x) r))))

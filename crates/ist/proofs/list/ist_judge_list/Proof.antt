@@ -107,7 +107,8 @@ module _ {M : Type 1} (𝓤 : URA M) (H : Heap 𝓤) (A : Atoms 𝓤) (W : Given
 
   said :
       (r : i32 .Denot) →
-      ent 𝓤 (ensured 𝓤 H A core.ended (core.clauses 𝓤 H A mem run) tt given-core tt r) (fact 𝓤 (Of (length (now s)) (allSmall (now s)) (firstLinks 256 (now s)) (λ ys. Φ n ys r)))
+      ent 𝓤 (ensured 𝓤 H A core.ended (core.clauses 𝓤 H A mem run) tt given-core tt r)
+      (fact 𝓤 (Of (length (now s)) (allSmall (now s)) (firstLinks 256 (now s)) (λ ys. Φ n ys r)))
   said r =
       exE 𝓤 _ (λ ws. snd∗ 𝓤 (sem 𝓤 H A (lasts core.ended tt given-core ws))
       (fact 𝓤 (Of (length (now s)) (allSmall (now s)) (firstLinks 256 (now s)) (λ ys. Φ n ys r))))

@@ -1,10 +1,10 @@
--- `leb128::size_short` meets its contract: each return is a case of `encode`. Assumes nothing.
+-- `leb128_write::size_short` meets its contract: each return is a case of `encode`. Assumes nothing.
 use Prim.Native.Nat.{_/_}
 use native.Mathlib.Omega.{arith}
 use mathlib.Core.Path.{sym}
 use Rattle.number.specs.Laws.{encode-size-last, encode-size-more, encode-size-pos, encode-size-most}
-use Rattle.leb128.proofs.size_short.Statement.{statement}
-use Rattle.leb128.proofs.size_short.Tie as tie
+use Rattle.leb128_write.proofs.size_short.Statement.{statement}
+use Rattle.leb128_write.proofs.size_short.Tie as tie
 
 returns : tie.Need-returns
 returns c = sym (encode-size-last 1 (c .before .args .x) (c .if1 .taken))

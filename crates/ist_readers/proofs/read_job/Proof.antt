@@ -1,9 +1,9 @@
--- `ist_frames::read_job` meets its contract: what is said of the job, in numbers. Assumes nothing.
+-- `ist_readers::read_job` meets its contract: what is said of the job, in numbers. Assumes nothing.
 use mathlib.Core.Path.{refl}
 use Rattle.codes.specs.ExportLaws.{number-told, copied-most}
 use borrow.Author.Needs.{needs}
-use Rattle.ist_frames.proofs.read_job.Statement.{statement}
-use Rattle.ist_frames.proofs.read_job.Tie as tie
+use Rattle.ist_readers.proofs.read_job.Statement.{statement}
+use Rattle.ist_readers.proofs.read_job.Tie as tie
 
 copy-job-requires : tie.Need-copy-job-requires
 copy-job-requires c κs = search needs

@@ -1,4 +1,4 @@
--- `leb128::write_short` meets its contract: one byte, or the first and the last of `encode`. Assumes nothing.
+-- `leb128_write::write_short` meets its contract: one byte, or the first and the last of `encode`. Assumes nothing.
 use Prim.Native.Nat.{ℕ, _+_, _/_, _%_, _≤_, _<_}
 use native.Mathlib.Numerals.{add-one}
 use native.Mathlib.Omega.{arith}
@@ -6,10 +6,10 @@ use mathlib.Core.Path.{_≡_, refl, ap, _∙_}
 use mathlib.Core.List.{[], _∷_}
 use lib.ListN.{length, length-set}
 use Rattle.number.specs.Number.{encode}
-use Rattle.leb128.proofs.Steps.{encode-last, encode-more}
+use Rattle.leb128_write.proofs.Steps.{encode-last, encode-more}
 use borrow.Author.Needs.{needs}
-use Rattle.leb128.proofs.write_short.Statement.{statement}
-use Rattle.leb128.proofs.write_short.Tie as tie
+use Rattle.leb128_write.proofs.write_short.Statement.{statement}
+use Rattle.leb128_write.proofs.write_short.Tie as tie
 
 short : (x : ℕ) → x < 128 → encode 2 x ≡ x ∷ []
 short x l = encode-last 2 x (λ e. omega (arith, e)) l

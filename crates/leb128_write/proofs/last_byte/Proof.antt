@@ -1,10 +1,10 @@
--- `leb128::last_byte` meets its contract: each return is a case of `encode`. Assumes nothing.
+-- `leb128_write::last_byte` meets its contract: each return is a case of `encode`. Assumes nothing.
 use Prim.Native.Nat.{_/_, _-_}
 use native.Mathlib.Omega.{arith}
-use Rattle.leb128.proofs.Steps.{encode-none, encode-last, encode-more}
+use Rattle.leb128_write.proofs.Steps.{encode-none, encode-last, encode-more}
 use borrow.Author.Needs.{needs}
-use Rattle.leb128.proofs.last_byte.Statement.{statement}
-use Rattle.leb128.proofs.last_byte.Tie as tie
+use Rattle.leb128_write.proofs.last_byte.Statement.{statement}
+use Rattle.leb128_write.proofs.last_byte.Tie as tie
 
 cast-result : tie.Need-cast-result
 cast-result c = search needs

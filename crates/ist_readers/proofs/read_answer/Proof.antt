@@ -1,9 +1,9 @@
--- `ist_frames::read_answer` meets its contract: what is said of the answer, in numbers. Assumes nothing.
+-- `ist_readers::read_answer` meets its contract: what is said of the answer, in numbers. Assumes nothing.
 use mathlib.Core.Path.{refl}
 use Rattle.codes.specs.ExportLaws.{code-told, copied-sayable}
 use borrow.Author.Needs.{needs}
-use Rattle.ist_frames.proofs.read_answer.Statement.{statement}
-use Rattle.ist_frames.proofs.read_answer.Tie as tie
+use Rattle.ist_readers.proofs.read_answer.Statement.{statement}
+use Rattle.ist_readers.proofs.read_answer.Tie as tie
 
 copy-answer-requires : tie.Need-copy-answer-requires
 copy-answer-requires c κs = search needs

@@ -1,7 +1,7 @@
--- `ist_frames::find_cost` meets its contract: offset and length are those of the part. Assumes nothing.
+-- `ist_finders::find_cost` meets its contract: offset and length are those of the part. Assumes nothing.
 use borrow.Author.Needs.{needs}
-use Rattle.ist_frames.proofs.find_cost.Statement.{statement}
-use Rattle.ist_frames.proofs.find_cost.Tie as tie
+use Rattle.ist_finders.proofs.find_cost.Statement.{statement}
+use Rattle.ist_finders.proofs.find_cost.Tie as tie
 
 locate-cost-requires : tie.Need-locate-cost-requires
 locate-cost-requires c κs = search needs

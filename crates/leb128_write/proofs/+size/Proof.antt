@@ -2,14 +2,14 @@
 use Prim.Native.Nat.{ℕ, _-_, _/_, _<_}
 use native.Mathlib.Omega.{arith}
 use Rattle.number.specs.Laws.{encode-size-most}
-use Rattle.leb128.proofs.Steps.{encode-none, encode-last, encode-more}
+use Rattle.leb128_write.proofs.Steps.{encode-none, encode-last, encode-more}
 use borrow.Fn.Kinds.{In}
 use borrow.Fn.PlainCycle.{Measures, is, falls, and}
-use Rattle.leb128.proofs.size.Reads as size
-use Rattle.leb128.proofs.size.Kinds as size-kinds
-use Rattle.leb128.proofs.+size.Lts-size as size-lts
-use Rattle.leb128.proofs.+size.{statement}
-use Rattle.leb128.proofs.+size.Tie.{close}
+use Rattle.leb128_write.proofs.size.Reads as size
+use Rattle.leb128_write.proofs.size.Kinds as size-kinds
+use Rattle.leb128_write.proofs.+size.Lts-size as size-lts
+use Rattle.leb128_write.proofs.+size.{statement}
+use Rattle.leb128_write.proofs.+size.Tie.{close}
 
 abbrev μ-size : Measures 0 size-kinds.ps ℕ
 μ-size κs a = a .1 .0

@@ -1,7 +1,7 @@
--- `ist_frames::find_link` meets its contract: offset and length are those of the part. Assumes nothing.
+-- `ist_finders::find_link` meets its contract: offset and length are those of the part. Assumes nothing.
 use borrow.Author.Needs.{needs}
-use Rattle.ist_frames.proofs.find_link.Statement.{statement}
-use Rattle.ist_frames.proofs.find_link.Tie as tie
+use Rattle.ist_finders.proofs.find_link.Statement.{statement}
+use Rattle.ist_finders.proofs.find_link.Tie as tie
 
 locate-link-requires : tie.Need-locate-link-requires
 locate-link-requires c κs = search needs

@@ -7,14 +7,14 @@ use mathlib.Core.Path.{_≡_, refl, ap, _∙_}
 use mathlib.Core.List.{[], _∷_}
 use lib.ListN.{length, length-set}
 use Rattle.number.specs.Number.{encode}
-use Rattle.leb128.proofs.Steps.{encode-none, encode-last, encode-more}
+use Rattle.leb128_write.proofs.Steps.{encode-none, encode-last, encode-more}
 use borrow.Fn.Kinds.{In}
 use borrow.Fn.PlainCycle.{Measures, is, falls, and}
-use Rattle.leb128.proofs.write.Reads as write
-use Rattle.leb128.proofs.write.Kinds as write-kinds
-use Rattle.leb128.proofs.+write.Lts-write as write-lts
-use Rattle.leb128.proofs.+write.{statement}
-use Rattle.leb128.proofs.+write.Tie.{close}
+use Rattle.leb128_write.proofs.write.Reads as write
+use Rattle.leb128_write.proofs.write.Kinds as write-kinds
+use Rattle.leb128_write.proofs.+write.Lts-write as write-lts
+use Rattle.leb128_write.proofs.+write.{statement}
+use Rattle.leb128_write.proofs.+write.Tie.{close}
 
 abbrev μ-write : Measures 1 write-kinds.ps ℕ
 μ-write κs a = a .1 .1 .1 .0
