@@ -1,6 +1,4 @@
--- The labels in arrays: what the code's state says in the words of the model, and the laws that its steps rest on.
-pub mod Store
-pub mod FillSteps
-pub mod LabelSteps
+-- The labels in arrays: what labelling promises in the words of the model, and the laws that its steps rest on.
+pub mod Labels
 pub mod SkipSteps
 pub mod OriginSteps

@@ -25,8 +25,9 @@ use Rattle.search.specs.State.{arrayMates, Below, Suits}
 use Rattle.search.specs.ExploreSteps.{below-same}
 use Rattle.graph.specs.Rank.{costAt}
 use Rattle.matching.specs.Progress.{Holds}
+use Rattle.origin.specs.Store.{Store, store, storeLabels, Sized, TreeLabelled, SpareLabelled}
 use Rattle.labels.specs.SkipSteps.{skip-one}
-use Rattle.labels.specs.Store.{Store, store, storeLabels, Sized, TreeLabelled, SpareLabelled, Labellable, Labelled, treeNext, matchedBelow}
+use Rattle.labels.specs.Labels.{Labellable, Labelled, treeNext, matchedBelow}
 
 -- Is there a hit below one more?
 any-more : (n : ℕ) (P : ℕ → Bool) → ltb (first (suc n) P) (suc n) ≡ (ltb (first n P) n || P n)

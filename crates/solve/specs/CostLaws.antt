@@ -6,7 +6,7 @@ use lib.ListN.{getD, take}
 use Rattle.optimum.specs.Solve.{place}
 use Rattle.optimum.specs.Lowest.{labels}
 use Rattle.search.specs.State.{arrayMates}
-use Rattle.labels.specs.Store.{Labelled}
+use Rattle.labels.specs.Labels.{Labelled}
 use Rattle.links.specs.ColumnLaws.{zeros, zero-at}
 use Rattle.solve.specs.Solving.{Costed}
 

@@ -2,8 +2,9 @@
 use Prim.Native.Nat.{_+_, _-_, _<_}
 use native.Mathlib.Omega.{arith}
 use mathlib.Core.Path.{sym, _∙_}
-use Rattle.labels.specs.Store.{store}
-use Rattle.labels.specs.OriginSteps.{LabelTurn, labelling-start, matched-few, left-out, labelling-skip, tree-there, spare-there, labelling-tree, labelling-spare, labelling-end}
+use Rattle.origin.specs.Store.{store}
+use Rattle.labels.specs.OriginSteps.{LabelTurn, labelling-start, labelling-skip, labelling-tree, labelling-spare, labelling-end}
+use Rattle.labels.specs.OriginSteps.{matched-few, left-out, tree-there, spare-there}
 use Rattle.labels.proofs.label.Statement.{statement}
 use Rattle.labels.proofs.label.Tie as tie
 
@@ -160,9 +161,10 @@ still-left-requires-2 c κs = tt
 
 loop-less-2 : tie.Need-loop-less-2 Inv-loop μ-loop
 loop-less-2 c =
-    let e = c .before .before .before .before .before .before .before .before .before .before .before .before .before .before .before .before .before .before .before .before in
+    let turn = c .before .before .before .before .before .before .before .before .before .before .before .before in
+    let e = turn .before .before .before .before .before .before .before .before in
     let a = e .args in
-    let l = c .before .before .before .before .before .before .before .before .before .before .before .before .loop in
+    let l = turn .loop in
     let k : 0 < l .left = spare-there (a .trees) (a .spares) (a .cost .now) (a .ts .now) (a .ss .now) (a .rows .now) (a .mates .now)
     (store (l .mates) (l .tree-done) (l .live) (l .tree-label) (l .spare-label)) (l .t) (l .left) (l .inv)
     (c .before .before .before .before .before .before .before .before .before .before .before .loop-test .taken)
@@ -172,9 +174,10 @@ loop-less-2 c =
 
 loop-again-2 : tie.Need-loop-again-2 Inv-loop μ-loop
 loop-again-2 c =
-    let e = c .before .before .before .before .before .before .before .before .before .before .before .before .before .before .before .before .before .before .before .before in
+    let turn = c .before .before .before .before .before .before .before .before .before .before .before .before in
+    let e = turn .before .before .before .before .before .before .before .before in
     let a = e .args in
-    let l = c .before .before .before .before .before .before .before .before .before .before .before .before .loop in
+    let l = turn .loop in
     let d = c .before .before .label-spare in
     let n = c .still-left2 in
     let out = left-out (d .last .1 .1 .1 .1 .1 .0) (l .left - 1) (n .result) (n .ensures) (omega (arith, l .inv .spares-within, e .pre .few-spares)) in

@@ -3,7 +3,7 @@ use Prim.Native.Nat.{ℕ, _-_, _≤_}
 use native.Mathlib.Omega.{arith}
 use mathlib.Core.Path.{_≡_}
 use Rattle.bits.specs.Bit.{bit}
-use Rattle.labels.specs.Store.{matchedBelow}
+use Rattle.labels.specs.Labels.{matchedBelow}
 use Rattle.labels.specs.OriginSteps.{matched-start, matched-turn}
 use Rattle.labels.proofs.matched_trees.Statement.{statement}
 use Rattle.labels.proofs.matched_trees.Tie as tie

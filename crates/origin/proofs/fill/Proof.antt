@@ -1,10 +1,10 @@
--- `labels::fill` meets its contract. The invariant: what is left to label, labelled now, gives the whole. Assumes nothing.
+-- `origin::fill` meets its contract. The invariant: what is left to label, labelled now, gives the whole. Assumes nothing.
 use native.Mathlib.Omega.{arith}
 use Rattle.bits.specs.Bit.{bit}
 use Rattle.graph.specs.Graph.{count}
-use Rattle.labels.specs.FillSteps.{Filling, filling-start, filling-below, filling-turn, filling-less, filling-end}
-use Rattle.labels.proofs.fill.Statement.{statement}
-use Rattle.labels.proofs.fill.Tie as tie
+use Rattle.origin.specs.FillSteps.{Filling, filling-start, filling-below, filling-turn, filling-less, filling-end}
+use Rattle.origin.proofs.fill.Statement.{statement}
+use Rattle.origin.proofs.fill.Tie as tie
 
 abbrev Inv-loop : tie.InvT-loop
 Inv-loop word base x label₀ left₀ label left =

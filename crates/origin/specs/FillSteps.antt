@@ -19,7 +19,7 @@ use Rattle.sets.specs.Sets.{member}
 use Rattle.sets.specs.SetsLaws.{member-past, member-word}
 use Rattle.graph.specs.Graph.{count}
 use Rattle.graph.specs.CountLaws.{count-put}
-use Rattle.labels.specs.Store.{LabelsPut, SparesFilled}
+use Rattle.origin.specs.Store.{LabelsPut, SparesFilled}
 
 -- What the loop over a word keeps: `left` holds the members without a label.
 pub record Filling (word base x : ℕ) (label₀ : List ℕ) (left : ℕ) (label : List ℕ) : Type 0 where

@@ -1,10 +1,10 @@
--- `labels::explore_mate` meets its contract. Assumes nothing.
+-- `origin::explore_mate` meets its contract. Assumes nothing.
 use borrow.Author.Needs.{needs}
 use native.Mathlib.Omega.{arith}
 use mathlib.Core.Path.{sym, _∙_}
-use Rattle.labels.specs.LabelSteps.{mate-none, mate-seen, mate-explored}
-use Rattle.labels.proofs.explore_mate.Statement.{statement}
-use Rattle.labels.proofs.explore_mate.Tie as tie
+use Rattle.origin.specs.LabelSteps.{mate-none, mate-seen, mate-explored}
+use Rattle.origin.proofs.explore_mate.Statement.{statement}
+use Rattle.origin.proofs.explore_mate.Tie as tie
 
 cast-mate : tie.Need-cast-mate
 cast-mate c = search needs

@@ -1,9 +1,9 @@
--- `labels::fill_spares` meets its contract. The invariant: the words passed have their labels. Assumes nothing.
+-- `origin::fill_spares` meets its contract. The invariant: the words passed have their labels. Assumes nothing.
 use Prim.Native.Nat.{_-_}
 use native.Mathlib.Omega.{arith}
-use Rattle.labels.specs.FillSteps.{WordsFilled, words-start, words-turn, words-end}
-use Rattle.labels.proofs.fill_spares.Statement.{statement}
-use Rattle.labels.proofs.fill_spares.Tie as tie
+use Rattle.origin.specs.FillSteps.{WordsFilled, words-start, words-turn, words-end}
+use Rattle.origin.proofs.fill_spares.Statement.{statement}
+use Rattle.origin.proofs.fill_spares.Tie as tie
 
 abbrev Inv-loop : tie.InvT-loop
 Inv-loop x old new label₀ k₀ label k =

@@ -1,11 +1,11 @@
--- `labels::label_spare` meets its contract. Assumes nothing.
+-- `origin::label_spare` meets its contract. Assumes nothing.
 use borrow.Author.Needs.{needs}
 use borrow.Author.Tests.{not-true, not-false}
 use mathlib.Core.Path.{sym, _∙_}
-use Rattle.labels.specs.Store.{store}
-use Rattle.labels.specs.LabelSteps.{spare-done, spare-labelled}
-use Rattle.labels.proofs.label_spare.Statement.{statement}
-use Rattle.labels.proofs.label_spare.Tie as tie
+use Rattle.origin.specs.Store.{store}
+use Rattle.origin.specs.LabelSteps.{spare-done, spare-labelled}
+use Rattle.origin.proofs.label_spare.Statement.{statement}
+use Rattle.origin.proofs.label_spare.Tie as tie
 
 contains-requires : tie.Need-contains-requires
 contains-requires c κs = search needs
@@ -30,9 +30,12 @@ returns-2 : tie.Need-returns-2
 returns-2 c =
     let e = c .before .before .before .before .before .before .before .before .before .before .before .before .before .before .before .before in
     let a = e .args in
+    let test = c .before .before .before .before .before .before .before .before .before .before .before .before .before in
+    let h = test .before .contains in
+    let r = c .before .before .before .before .before .before .before .before .before .remove in
     let f = c .before .before .before .before .before .explore-mate in
     spare-labelled (a .s .0) (a .x) (a .rows .now) (store (a .mates .now) (a .tree-done .now) (a .live .now) (a .tree-label .now) (a .spare-label .now))
-    (e .pre .1) (sym (c .before .before .before .before .before .before .before .before .before .before .before .before .before .before .contains .ensures) ∙ not-false (c .before .before .before .before .before .before .before .before .before .before .before .before .before .before .contains .result) (c .before .before .before .before .before .before .before .before .before .before .before .before .before .if1 .left)) (c .before .before .before .before .before .before .before .before .before .remove .last .0) (c .before .before .before .before .before .before .before .before .before .remove .ensures .0)
+    (e .pre .1) (sym (h .ensures) ∙ not-false (h .result) (test .if1 .left)) (r .last .0) (r .ensures .0)
     (store (f .last .1 .1 .0) (f .last .1 .1 .1 .0) (f .last .1 .1 .1 .1 .0) (c .relabel .last .1 .1 .1 .1 .1 .0) (c .relabel .last .1 .1 .1 .1 .1 .1 .0))
     (f .ensures) (c .relabel .ensures)
 

@@ -15,7 +15,7 @@ use Rattle.optimum.specs.Lowest.{fresh, labelled, matched, labelTree, mateSearc
 use Rattle.search.specs.State.{arrayMates, stateOf, Swept}
 use Rattle.search.specs.SpareSteps.{state-spare}
 use Rattle.search.specs.ExploreSteps.{below-same}
-use Rattle.labels.specs.Store.{Store, storeLabels, Sized, LabelsPut, SparesFilled, Relabelled, MateSwept, TreeLabelled, SpareLabelled}
+use Rattle.origin.specs.Store.{Store, storeLabels, Sized, LabelsPut, SparesFilled, Relabelled, MateSwept, TreeLabelled, SpareLabelled}
 
 -- Both kinds of label written.
 pub relabelled : (x old-trees : ℕ) (old-live : List ℕ) (trees : ℕ) (live tree-label spare-label tree-label′ spare-label′ : List ℕ)

@@ -1,10 +1,10 @@
--- `labels::label_tree` meets its contract. Assumes nothing.
+-- `origin::label_tree` meets its contract. Assumes nothing.
 use borrow.Author.Needs.{needs}
 use mathlib.Core.Path.{sym, _∙_}
-use Rattle.labels.specs.Store.{store}
-use Rattle.labels.specs.LabelSteps.{tree-matched, tree-done, tree-labelled}
-use Rattle.labels.proofs.label_tree.Statement.{statement}
-use Rattle.labels.proofs.label_tree.Tie as tie
+use Rattle.origin.specs.Store.{store}
+use Rattle.origin.specs.LabelSteps.{tree-matched, tree-done, tree-labelled}
+use Rattle.origin.proofs.label_tree.Statement.{statement}
+use Rattle.origin.proofs.label_tree.Tie as tie
 
 has-requires : tie.Need-has-requires
 has-requires c κs = search needs

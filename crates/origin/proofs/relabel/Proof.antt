@@ -1,8 +1,8 @@
--- `labels::relabel` meets its contract. Assumes nothing.
+-- `origin::relabel` meets its contract. Assumes nothing.
 use borrow.Author.Needs.{needs}
-use Rattle.labels.specs.LabelSteps.{relabelled}
-use Rattle.labels.proofs.relabel.Statement.{statement}
-use Rattle.labels.proofs.relabel.Tie as tie
+use Rattle.origin.specs.LabelSteps.{relabelled}
+use Rattle.origin.proofs.relabel.Statement.{statement}
+use Rattle.origin.proofs.relabel.Tie as tie
 
 less-requires : tie.Need-less-requires
 less-requires c κs = search needs
