@@ -1,4 +1,3 @@
--- What the functions between edges and ranks ask and compute, and the laws of their loops.
+-- What the functions from ranks back to edges ask, and the laws of their loops.
 pub mod Asked
-pub mod RowLaws
 pub mod PlaceLaws

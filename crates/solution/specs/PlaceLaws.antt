@@ -12,7 +12,7 @@ use Rattle.loops.specs.Loop.{scan, put}
 use Rattle.loops.specs.PutLaws.{put-same, put-other}
 use Rattle.loops.specs.ScanLaws.{scan-start, scan-turn, scan-end}
 use Rattle.optimum.specs.Solve.{place, join, partners}
-use Rattle.solution.specs.Asked.{Ranks}
+use Rattle.graph.specs.Rank.{Ranks}
 
 -- A list with one changed element, and a list of zeros-at, as functions.
 set-put : (l : List ℕ) (i x : ℕ) → i < length l → (λ e. getD (set l i x) e 0) ≡ put (λ e. getD l e 0) i x

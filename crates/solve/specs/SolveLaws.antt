@@ -30,7 +30,7 @@ use Rattle.matching.specs.Progress.{Edges, Holds}
 use Rattle.codec.specs.Numbers.{numbersAt}
 use Rattle.codec.specs.Held.{answerAt}
 use Rattle.answer.specs.Contents.{matePairs, PairsListed}
-use Rattle.solution.specs.Asked.{covers, RanksFall, RanksRise, Ends}
+use Rattle.covering.specs.Rows.{covers, RanksFall, RanksRise, Ends}
 use Rattle.held.specs.Held.{Held}
 use Rattle.held.specs.HeldLaws.{few-nodes, tree-count, tree-price}
 use Rattle.solve.specs.Solving.{SparesRanked, RowsFilled, Matched}

@@ -13,7 +13,7 @@ use Rattle.sets.specs.Sets.{inRow}
 use Rattle.ranks.specs.Keys.{spareList}
 use Rattle.links.specs.ColumnLaws.{zeros}
 use Rattle.search.specs.State.{arrayMates, Below, Taken}
-use Rattle.solution.specs.Asked.{undercuts, RanksRise}
+use Rattle.covering.specs.Rows.{undercuts, RanksRise}
 use Rattle.matching.specs.Progress.{Edges, Holds, Built}
 
 -- What placing new costs needs: a matching and the set of its spare ranks, ranks that name edges, and arrays of zeros.

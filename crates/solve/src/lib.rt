@@ -76,7 +76,7 @@ pub fn solve(
     let mut ss = [0u32; 256];
     let spares = ranks::spare_ranks(edges, cost, mark, &mut ss);
     let mut rows = [0u64; 256];
-    solution::fill_rows(trees, spares, cost, ts, &ss, end1, end2, mask, &mut rows);
+    covering::fill_rows(trees, spares, cost, ts, &ss, end1, end2, mask, &mut rows);
     let mates = end1;
     *mates = [0u32; 256];
     let mut taken = [0u64; 4];

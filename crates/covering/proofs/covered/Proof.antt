@@ -1,7 +1,7 @@
--- `solution::covered` meets its contract. Assumes nothing.
+-- `covering::covered` meets its contract. Assumes nothing.
 use borrow.Author.Needs.{needs}
-use Rattle.solution.proofs.covered.Statement.{statement}
-use Rattle.solution.proofs.covered.Tie as tie
+use Rattle.covering.proofs.covered.Statement.{statement}
+use Rattle.covering.proofs.covered.Tie as tie
 
 cast-k : tie.Need-cast-k
 cast-k c = search needs

@@ -16,7 +16,7 @@ use Rattle.bits.specs.Bit.{bit}
 use Rattle.bits.specs.BitLaws.{bit-zero, first-below}
 use Rattle.sets.specs.Sets.{inRow}
 use Rattle.sets.specs.SetsLaws.{row-none}
-use Rattle.solution.specs.Asked.{covers, undercuts, RanksRise}
+use Rattle.covering.specs.Rows.{covers, undercuts, RanksRise}
 use Rattle.graph.specs.Rank.{costAt}
 
 put-now : (r e : Bool) → ((r || (true && e)) || (e && (true && not true))) ≡ (r || (e && true))

@@ -1,13 +1,13 @@
--- `solution::dearer` meets its contract. The loop's invariant: the ranks from p up cost no more than x. The measure is p.
+-- `covering::dearer` meets its contract. The loop's invariant: the ranks from p up cost no more than x. The measure is p.
 -- Assumes nothing.
 use Prim.Native.Nat.{ℕ, _-_, _≤_, _<_}
 use native.Mathlib.Decide.{ℕ-discrete}
 use native.Mathlib.Omega.{arith}
 use lib.ListN.{getD}
 use Rattle.graph.specs.Rank.{costAt}
-use Rattle.solution.specs.RowLaws.{limit-is}
-use Rattle.solution.proofs.dearer.Statement.{statement}
-use Rattle.solution.proofs.dearer.Tie as tie
+use Rattle.covering.specs.RowLaws.{limit-is}
+use Rattle.covering.proofs.dearer.Statement.{statement}
+use Rattle.covering.proofs.dearer.Tie as tie
 
 abbrev Inv-loop : tie.InvT-loop
 Inv-loop limit x cost ts p₀ p = (p ≤ limit) × ((t : ℕ) → p ≤ t → t < limit → costAt cost ts t ≤ x)

@@ -1,4 +1,4 @@
--- `solution::fill_rows` meets its contract. The loop's invariant: the rows hold the spare ranks passed, each where it
+-- `covering::fill_rows` meets its contract. The loop's invariant: the rows hold the spare ranks passed, each where it
 -- undercuts; no tree rank from the limit up costs more than a spare rank that is left. The measure is how many are left.
 -- Assumes nothing.
 use Prim.Native.Nat.{ℕ, _-_, _≤_, _<_}
@@ -6,9 +6,9 @@ use mathlib.Core.Path.{_≡_, ap, _∙_}
 use native.Mathlib.Omega.{arith}
 use lib.ListN.{length, getD, length-replicate}
 use Rattle.graph.specs.Rank.{costAt}
-use Rattle.solution.specs.RowLaws.{limit-all, limit-cuts, RowsHold, rows-start, rows-turn, rows-end}
-use Rattle.solution.proofs.fill_rows.Statement.{statement}
-use Rattle.solution.proofs.fill_rows.Tie as tie
+use Rattle.covering.specs.RowLaws.{limit-all, limit-cuts, RowsHold, rows-start, rows-turn, rows-end}
+use Rattle.covering.proofs.fill_rows.Statement.{statement}
+use Rattle.covering.proofs.fill_rows.Tie as tie
 
 abbrev Inv-loop : tie.InvT-loop
 Inv-loop trees q cost ts ss end1 end2 mask rows₀ limit₀ s₀ rows limit s =

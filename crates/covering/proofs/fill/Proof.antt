@@ -1,4 +1,4 @@
--- `solution::fill` meets its contract. The loop's invariant: the rows, with the spare rank in those of what is left of
+-- `covering::fill` meets its contract. The loop's invariant: the rows, with the spare rank in those of what is left of
 -- the set, are as at first with it in those of the whole set. The measure is what is left. Assumes nothing.
 use Prim.Native.Nat.{ℕ, _^_, _<_}
 use mathlib.Core.Path.{_≡_, refl, _∙_}
@@ -10,9 +10,9 @@ use lib.ListN.{length}
 use Rattle.bits.specs.Bit.{bit}
 use Rattle.bits.specs.BitLaws.{first-below, fewer}
 use Rattle.sets.specs.Sets.{inRow}
-use Rattle.solution.specs.RowLaws.{fill-turn, fill-end}
-use Rattle.solution.proofs.fill.Statement.{statement}
-use Rattle.solution.proofs.fill.Tie as tie
+use Rattle.covering.specs.RowLaws.{fill-turn, fill-end}
+use Rattle.covering.proofs.fill.Statement.{statement}
+use Rattle.covering.proofs.fill.Tie as tie
 
 abbrev Inv-loop : tie.InvT-loop
 Inv-loop trees rows₀ s left₀ rows left =
