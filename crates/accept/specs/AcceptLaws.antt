@@ -14,7 +14,7 @@ use Rattle.frame.specs.Questions.{jobOf, numberQuestions, formRefusal, refusal}
 use Rattle.frame.specs.Division.{division}
 use Rattle.frame.specs.Form.{formed-pass, form-refusal}
 use Rattle.frame.specs.Accepted.{accepted}
-use Rattle.frame.specs.RoundTrip.{formed, job-of, links-few}
+use Rattle.frame.specs.RoundTrip.{formed, job-of}
 use Rattle.job.specs.declared.Header.{Header}
 use Rattle.job.specs.Reading.{header, headerOf, refusedHeader}
 use Rattle.accept.specs.Accepting.{treeRefusal, acceptedHeader}
@@ -71,9 +71,6 @@ module _ (s : List ℕ) (h : Header) (e : h ≡ headerOf s) where
     pub header-edges : h .edges ≡ length (jobOf s .links)
     unfolding header
     header-edges = ap (λ (h : Header). h .edges) (e ∙ ap (λ (r : ℕ). header r (jobOf s)) formed-zero)
-
-    pub few-edges : h .edges ≤ 256
-    few-edges = omega (arith, header-edges, links-few s b formed-zero)
 
     -- What question 6 then says.
     module _ (r : ℕ) (said : r ≡ treeRefusal (jobOf s)) where

@@ -61,7 +61,7 @@ fn dearer(limit: u32, x: u32, cost: &[u32; 256], ts: &[u32; 256]) -> u32
 // ranks go by rising cost: what no longer costs more never does again.
 pub fn fill_rows(
     trees: u32,
-    q: usize,
+    spares: usize,
     cost: &[u32; 256],
     ts: &[u32; 256],
     ss: &[u32; 256],
@@ -71,16 +71,16 @@ pub fn fill_rows(
     rows: &mut [u64; 256],
 )
     requires trees { ⌜ (trees < 64) × Ranks trees (now ts) × RanksFall trees (now cost) (now ts) ⌝ }
-    requires spares { ⌜ Ranks q (now ss) × RanksRise q (now cost) (now ss) ⌝ }
-    requires ends { ⌜ Ends q (now ss) (now end1) (now end2) ⌝ }
+    requires spares { ⌜ Ranks spares (now ss) × RanksRise spares (now cost) (now ss) ⌝ }
+    requires ends { ⌜ Ends spares (now ss) (now end1) (now end2) ⌝ }
     requires empty { ⌜ now rows ≡ replicate 256 0 ⌝ }
     ensures members { λ r. ⌜ ((t s : ℕ) → t < trees → s < 256 → inRow (now (rows .exit)) t s
-        ≡ (ltb s q && undercuts (now (cost .entry)) (now (ts .entry)) (now (ss .entry)) (now (end1 .entry)) (now (end2 .entry)) (now (mask .entry)) t s)) ⌝ }
+        ≡ (ltb s spares && undercuts (now (cost .entry)) (now (ts .entry)) (now (ss .entry)) (now (end1 .entry)) (now (end2 .entry)) (now (mask .entry)) t s)) ⌝ }
     ensures length { λ r. ⌜ length (now (rows .exit)) ≡ 256 ⌝ }
 {
     let mut limit = trees;
     let mut s: usize = 0;
-    while s < q {
+    while s < spares {
         let e = Edge(ss[s]);
         limit = dearer(limit, cost[e.0 as usize], cost, ts);
         if limit == 0 {

@@ -18,9 +18,11 @@ use Rattle.graph.specs.RankLaws.{tree-lists}
 use Rattle.graph.specs.Tree.{tree-means}
 use Rattle.frame.specs.Job.{Job, link, graphOf, treeOf, costOf}
 use Rattle.limits.specs.Limits.{maxNodes, maxEdges}
-use Rattle.frame.specs.Questions.{numbers, question1, question2, question3, question4, question5, question6, ask, numberQuestions, formRefusal, refusal}
-use Rattle.frame.specs.Meaning.{Divides, Counted, Complete, EndsHold, MarksHold, TreeHolds, Formed, FirstNo, nodeCount, edgeCount, jobFrom}
+use Rattle.frame.specs.Questions.{numbers, question1, question2, question3, question4, question5}
+use Rattle.frame.specs.Questions.{question6, ask, numberQuestions, formRefusal, refusal, later}
+use Rattle.frame.specs.Meaning.{Divides, Counted, Complete, EndsHold, MarksHold, TreeHolds, Formed, FirstNo, FirstNoWith, nodeCount, edgeCount, jobFrom}
 use Rattle.frame.specs.Meaning.FirstNo.{no1, no2, no3, no4, no5, no6, none}
+use Rattle.frame.specs.Meaning.FirstNoWith.{earlier, own, passed}
 use Rattle.frame.specs.Division.{division}
 
 pub question2-means : (ns : List ℕ) → (question2 ns ≡ true) ↔ Counted ns
@@ -171,6 +173,16 @@ turn1 s h Option.none e = no1 (λ ns d. let z : _≡_ {A = ℕ} 0 1 = cc (divisi
 -- What is computed is the first question whose answer is "no".
 pub first-no : (s : List ℕ) → Bytes s → FirstNo s (refusal s)
 first-no s h = turn1 s h (numbers s) refl
+
+-- And with a question of a service's own behind them.
+pub later-first :
+    (s : List ℕ) (number : ℕ) (holds : Bool) (Holds : Type 0) → Bytes s → (holds ≡ true) ↔ Holds →
+    FirstNoWith s number Holds (later (refusal s) holds number)
+later-first s number holds Holds h means = of (refusal s) (first-no s h)
+  where
+    of : (r : ℕ) → FirstNo s r → FirstNoWith s number Holds (later r holds number)
+    of zero f = ⊎-elim (λ y. rw y (passed f (means .0 y))) (λ n. rw n (own f (λ k. clash (means .1 k) n))) (truth holds)
+    of (suc r) f = earlier (suc r) (λ e. omega (arith, e)) f
 
 -- There is one first "no" only.
 pub first-no-unique : (s : List ℕ) (r : ℕ) → Bytes s → FirstNo s r → refusal s ≡ r

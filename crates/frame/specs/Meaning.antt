@@ -86,6 +86,12 @@ pub data FirstNo (s : List ℕ) : ℕ → Type 0 where
   no6 : (ns : List ℕ) → Formed s ns → (TreeHolds (jobFrom ns) → ⊥) → FirstNo s 6
   none : (ns : List ℕ) → Formed s ns → TreeHolds (jobFrom ns) → FirstNo s 0
 
+-- The same with one more question, of a service's own, put after these; its number is its own.
+pub data FirstNoWith (s : List ℕ) (number : ℕ) (Holds : Type 0) : ℕ → Type 0 where
+  earlier : (r : ℕ) → r ≢ 0 → FirstNo s r → FirstNoWith s number Holds r
+  own : FirstNo s 0 → (Holds → ⊥) → FirstNoWith s number Holds number
+  passed : FirstNo s 0 → Holds → FirstNoWith s number Holds 0
+
 -- An accepted job: one whose frame passes questions 1 to 6.
 pub record Accepted (j : Job) : Type 0 where
   pub some-node : 1 ≤ j .nodes

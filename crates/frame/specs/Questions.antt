@@ -87,6 +87,11 @@ formRefusal s = question1 (numbers s) (numberQuestions λ _. 0)
 abbrev pub refusal : List ℕ → ℕ
 refusal s = question1 (numbers s) (numberQuestions λ j. ask (question6 j) 6 λ _. 0)
 
+-- A question of a service's own, put after these: its number, if they have the answer "yes" and it has "no".
+abbrev pub later : ℕ → Bool → ℕ → ℕ
+later zero holds number = ask holds number λ _. 0
+later (suc r) holds number = suc r
+
 -- Question 2, put to a list of links.
 unfoldable pub counted : Job → Bool
 counted j = leb 1 (j .nodes) && leb (j .nodes) maxNodes && leb (length (j .links)) maxEdges

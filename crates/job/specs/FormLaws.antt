@@ -20,7 +20,7 @@ use Rattle.frame.specs.Form.{question2-means, question3-means}
 use Rattle.frame.specs.RoundTrip.{length-links}
 use Rattle.job.specs.declared.Counts.{Counts}
 use Rattle.codec.specs.Numbers.{Divided}
-use Rattle.job.specs.Reading.{LinksLoaded, loaded, loadLinks, filled, countsOf, refusedCounts, header, headerOf}
+use Rattle.job.specs.Reading.{LinksLoaded, linksLoaded, loadLinks, filled, countsOf, refusedCounts, header, headerOf}
 use Rattle.links.specs.Columns.{firsts, seconds, marks, endsApart, endsHold, marksHold}
 use Rattle.job.specs.LoadLaws.{load-all}
 use Rattle.codec.specs.NumberLaws.{parts-join, drop-divides}
@@ -124,10 +124,10 @@ module _ (s : List ℕ) (k : Counts) (p : CountsPassed s k) where
       part ≡ drop (k .behind) s →
       (l : LinksLoaded) →
       l .at ≡ 0 →
-      loadLinks part (k .edges) l ≡ loaded (length part) (filled (jobOf s .links) 0 (l .links))
+      loadLinks part (k .edges) l ≡ linksLoaded (length part) (filled (jobOf s .links) 0 (l .links))
   links-read part e l z =
       load-all part (k .edges) 0 (drop 2 (p .ns)) l (p .four) (omega arith) (rw (z, e) (p .rest)) ∙
-      ap (λ (ls : List JobLink). loaded (length part) (filled ls 0 (l .links))) (sym (p .links))
+      ap (λ (ls : List JobLink). linksLoaded (length part) (filled ls 0 (l .links))) (sym (p .links))
 
   -- Questions 4 and 5 over arrays are those of the job.
   pub ends-read :

@@ -11,7 +11,7 @@ use Rattle.leb128.specs.Positions.{readAt}
 use Rattle.leb128.specs.declared.Number.the-variants as Read
 use Rattle.limits.specs.Limits.{numberBytes}
 use Rattle.frame.specs.Meaning.{linksOf, Divides}
-use Rattle.job.specs.Reading.{LinksLoaded, loaded, linkPut, loadLink, filled}
+use Rattle.job.specs.Reading.{LinksLoaded, linksLoaded, linkPut, loadLink, filled}
 use Rattle.codec.specs.NumberLaws.{taken-value, next-number}
 
 -- One turn of the loop that reads links.
@@ -24,10 +24,10 @@ pub load-turn :
     readAt numberBytes s p₁ ≡ Read.Value v₂ p₂ →
     readAt numberBytes s p₂ ≡ Read.Value v₃ p₃ →
     readAt numberBytes s p₃ ≡ Read.Value v₄ p₄ →
-    scan (loadLink s) (n - (e + 1)) (e + 1) (loaded p₄ (linkPut e v₁ v₂ v₃ v₄ (l .links))) ≡ whole
+    scan (loadLink s) (n - (e + 1)) (e + 1) (linksLoaded p₄ (linkPut e v₁ v₂ v₃ v₄ (l .links))) ≡ whole
 unfolding loadLink
 load-turn s n e l whole q k v₁ v₂ v₃ v₄ p₁ p₂ p₃ p₄ e₁ e₂ e₃ e₄ =
-    let link : loadLink s e l ≡ loaded p₄ (linkPut e v₁ v₂ v₃ v₄ (l .links)) =
+    let link : loadLink s e l ≡ linksLoaded p₄ (linkPut e v₁ v₂ v₃ v₄ (l .links)) =
     rw (taken-value s (l .at) v₁ p₁ e₁, taken-value s p₁ v₂ p₂ e₂, taken-value s p₂ v₃ p₃ e₃, taken-value s p₃ v₄ p₄ e₄) in
     ap (scan (loadLink s) (n - (e + 1)) (e + 1)) (sym link) ∙ sym (scan-turn (loadLink s) n e l k) ∙ q
 
@@ -35,7 +35,7 @@ load-step :
     (s ns : List ℕ) (a b c k i : ℕ) (l : LinksLoaded) →
     l .at ≤ length s →
     Divides (drop (l .at) s) (a ∷ b ∷ c ∷ k ∷ ns) →
-    (at : ℕ) × (at ≤ length s) × Divides (drop at s) ns × (loadLink s i l ≡ loaded at (linkPut i a b c k (l .links)))
+    (at : ℕ) × (at ≤ length s) × Divides (drop at s) ns × (loadLink s i l ≡ linksLoaded at (linkPut i a b c k (l .links)))
 unfolding loadLink
 load-step s ns a b c k i l h d =
     let n₁ = next-number s (b ∷ c ∷ k ∷ ns) a (l .at) h d in
@@ -49,11 +49,11 @@ pub load-all :
     length ns ≡ 4 * m →
     l .at ≤ length s →
     Divides (drop (l .at) s) ns →
-    scan (loadLink s) m i l ≡ loaded (length s) (filled (linksOf ns) i (l .links))
+    scan (loadLink s) m i l ≡ linksLoaded (length s) (filled (linksOf ns) i (l .links))
 unfolding scan linksOf flatMap
 load-all s zero i [] l e h d =
     let last : l .at ≡ length s = omega (arith, ap length (d .joined), length-drop (l .at) s) in
-    ap (λ (at : ℕ). loaded at (l .links)) last
+    ap (λ (at : ℕ). linksLoaded at (l .links)) last
 load-all s zero i (a ∷ ns) l e h d = absurd (omega arith)
 load-all s (suc m) i [] l e h d = absurd (omega arith)
 load-all s (suc m) i (a ∷ []) l e h d = absurd (omega arith)
@@ -61,4 +61,4 @@ load-all s (suc m) i (a ∷ b ∷ []) l e h d = absurd (omega arith)
 load-all s (suc m) i (a ∷ b ∷ c ∷ []) l e h d = absurd (omega arith)
 load-all s (suc m) i (a ∷ b ∷ c ∷ k ∷ ns) l e h d =
     let (at, within, rest, q) = load-step s ns a b c k i l h d in
-    rw q (load-all s m (suc i) ns (loaded at (linkPut i a b c k (l .links))) (omega arith) within rest)
+    rw q (load-all s m (suc i) ns (linksLoaded at (linkPut i a b c k (l .links))) (omega arith) within rest)

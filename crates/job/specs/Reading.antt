@@ -21,8 +21,8 @@ pub record LinksLoaded : Type 0 where
   pub at : ℕ
   pub links : Columns
 
-abbrev pub loaded : ℕ → Columns → LinksLoaded
-loaded at c = record { at = at; links = c }
+abbrev pub linksLoaded : ℕ → Columns → LinksLoaded
+linksLoaded at c = record { at = at; links = c }
 
 -- A link's four numbers put into place e of the arrays; a list of links put there, the first at place e.
 abbrev pub linkPut : ℕ → ℕ → ℕ → ℕ → ℕ → Columns → Columns
@@ -38,7 +38,7 @@ loadLink s e l =
     let b : Taken = takenAt s (a .next) in
     let c : Taken = takenAt s (b .next) in
     let m : Taken = takenAt s (c .next) in
-    loaded (m .next) (linkPut e (a .value) (b .value) (c .value) (m .value) (l .links))
+    linksLoaded (m .next) (linkPut e (a .value) (b .value) (c .value) (m .value) (l .links))
 
 abbrev pub loadLinks : List ℕ → ℕ → LinksLoaded → LinksLoaded
 loadLinks s n l = scan (loadLink s) n 0 l

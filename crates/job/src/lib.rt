@@ -4,7 +4,7 @@ ghost use Prim.Native.Nat.{_+_, _*_, _≤_, _<_};
 ghost use lib.ListN.{length};
 ghost use Rattle.frame.specs.Questions.{numbers, jobOf};
 ghost use Rattle.codec.specs.Numbers.{Divided, placeOf};
-ghost use Rattle.job.specs.Reading.{refusedHeader, loaded, loadLinks, refusedCounts, countsOf, headerOf, filled};
+ghost use Rattle.job.specs.Reading.{refusedHeader, linksLoaded, loadLinks, refusedCounts, countsOf, headerOf, filled};
 ghost use Rattle.frame.specs.Arrays.{columns};
 ghost use Rattle.links.specs.Columns.{Places};
 ghost use Rattle.frame.specs.Replies.{linkPlace};
@@ -46,8 +46,8 @@ pub fn read_links(
 ) -> usize
     requires places { ⌜ edges ≤ 256 ⌝ }
     requires numbers { ⌜ Divided (now part) 0 (4 * edges) ⌝ }
-    ensures { λ r. ⌜ loaded r (columns (now (end1 .exit)) (now (end2 .exit)) (now (cost .exit)) (now (mark .exit)))
-        ≡ loadLinks (now (part .entry)) edges (loaded 0 (columns (now (end1 .entry)) (now (end2 .entry)) (now (cost .entry)) (now (mark .entry)))) ⌝ }
+    ensures { λ r. ⌜ linksLoaded r (columns (now (end1 .exit)) (now (end2 .exit)) (now (cost .exit)) (now (mark .exit)))
+        ≡ loadLinks (now (part .entry)) edges (linksLoaded 0 (columns (now (end1 .entry)) (now (end2 .entry)) (now (cost .entry)) (now (mark .entry)))) ⌝ }
 {
     let mut at: usize = 0;
     let mut e: usize = 0;

@@ -1,10 +1,8 @@
 // Questions 1 to 5 over links held in arrays.
 ghost use mathlib.Core.Path.{_≡_};
-ghost use mathlib.Core.Bool.{true};
-ghost use Prim.Native.Nat.{_+_, _≤_, _<_, min};
+ghost use Prim.Native.Nat.{_≤_, min};
 ghost use Rattle.limits.specs.Limits.{maxEdges};
-ghost use Rattle.loops.specs.Below.{allBelow};
-ghost use Rattle.links.specs.Columns.{endsApart, apartAt, endsHold, markedAt, marksHold, Places, linksSmall};
+ghost use Rattle.links.specs.Columns.{endsApart, endsHold, marksHold, Places, linksSmall};
 ghost use Rattle.frame.specs.Arrays.{columns, jobAt};
 ghost use Rattle.frame.specs.Questions.{listFormRefusal};
 use limits::MOST_COUNT;
@@ -25,96 +23,34 @@ fn ends_apart(nodes: u32, a: u32, b: u32) -> bool
     a != b
 }
 
-// Question 4 of eight links.
-fn block_apart(nodes: u32, e: usize, end1: &[u32; 256], end2: &[u32; 256]) -> bool
-    requires { ⌜ e + 8 ≤ 256 ⌝ }
-    ensures { λ r. ⌜ r ≡ allBelow 8 (λ k. apartAt nodes (now (end1 .entry)) (now (end2 .entry)) (e + k)) ⌝ }
-{
-    let mut holds = true;
-    let mut k: usize = 0;
-    while k < 8 {
-        let apart = ends_apart(nodes, end1[e + k], end2[e + k]);
-        holds = holds & apart;
-        k += 1;
-    }
-    holds
-}
-
-// Passes blocks of eight links, up to the first of which question 4 does not hold.
-fn pass_ends(nodes: u32, edges: usize, end1: &[u32; 256], end2: &[u32; 256]) -> usize
-    requires { ⌜ edges ≤ 256 ⌝ }
-    ensures within { λ r. ⌜ r ≤ edges ⌝ }
-    ensures holds { λ r. ⌜ endsHold nodes r (now (end1 .entry)) (now (end2 .entry)) ≡ true ⌝ }
-{
-    let mut e: usize = 0;
-    while 8 <= edges - e {
-        if !block_apart(nodes, e, end1, end2) {
-            break;
-        }
-        e += 8;
-    }
-    e
-}
-
-// Question 4 over arrays: every link's ends are below the station count and different.
+// Question 4 over arrays: every link's ends are below the station count and different. No exit inside the loop: the compiler
+// makes vector code of it.
 pub fn ends_hold(nodes: u32, edges: usize, end1: &[u32; 256], end2: &[u32; 256]) -> bool
     requires { ⌜ edges ≤ 256 ⌝ }
     ensures { λ r. ⌜ r ≡ endsHold nodes edges (now (end1 .entry)) (now (end2 .entry)) ⌝ }
 {
-    let mut e = pass_ends(nodes, edges, end1, end2);
-    while e < edges {
-        if !ends_apart(nodes, end1[e], end2[e]) {
-            return false;
-        }
-        e += 1;
-    }
-    true
-}
-
-// Question 5 of 32 links.
-fn block_marked(e: usize, mark: &[u32; 256]) -> bool
-    requires { ⌜ e + 32 ≤ 256 ⌝ }
-    ensures { λ r. ⌜ r ≡ allBelow 32 (λ k. markedAt (now (mark .entry)) (e + k)) ⌝ }
-{
     let mut holds = true;
-    let mut k: usize = 0;
-    while k < 32 {
-        holds = holds & (mark[e + k] <= 1);
-        k += 1;
+    let mut e: usize = 0;
+    while e < edges {
+        let apart = ends_apart(nodes, end1[e], end2[e]);
+        holds = holds & apart;
+        e += 1;
     }
     holds
 }
 
-// Passes blocks of 32 links, up to the first of which question 5 does not hold.
-fn pass_marks(edges: usize, mark: &[u32; 256]) -> usize
-    requires { ⌜ edges ≤ 256 ⌝ }
-    ensures within { λ r. ⌜ r ≤ edges ⌝ }
-    ensures holds { λ r. ⌜ marksHold r (now (mark .entry)) ≡ true ⌝ }
-{
-    let mut e: usize = 0;
-    while 32 <= edges - e {
-        if !block_marked(e, mark) {
-            break;
-        }
-        e += 32;
-    }
-    e
-}
-
-// Question 5 over arrays: every mark is 0 or 1.
+// Question 5 over arrays: every mark is 0 or 1. No exit inside the loop, either.
 pub fn marks_hold(edges: usize, mark: &[u32; 256]) -> bool
     requires { ⌜ edges ≤ 256 ⌝ }
     ensures { λ r. ⌜ r ≡ marksHold edges (now (mark .entry)) ⌝ }
 {
-    let mut e = pass_marks(edges, mark);
+    let mut holds = true;
+    let mut e: usize = 0;
     while e < edges {
-        let m = mark[e];
-        if 1 < m {
-            return false;
-        }
+        holds = holds & (mark[e] <= 1);
         e += 1;
     }
-    true
+    holds
 }
 
 // Question 1 over arrays: every number of the first `edges` links is at most 16,383.

@@ -1,6 +1,6 @@
 -- Laws of tests: a truth value is one of two, what "and", "or" and "exclusive or" mean, what a choice comes to, and a test of
 -- all numbers below a bound holds if it holds of each. Assumes nothing.
-use Prim.Native.Nat.{ℕ, zero, suc, _+_, _-_, _<_, _≤_}
+use Prim.Native.Nat.{ℕ, zero, suc, _+_, _-_, _<_}
 use native.Mathlib.Decide.{decLt}
 use native.Mathlib.Numerals.{add-one}
 use native.Mathlib.Omega.{arith}
@@ -99,16 +99,7 @@ unfolding allBelow
 all-same zero p q h = refl
 all-same (suc n) p q h = rw (all-same n p q (λ i l. h i (omega arith)), h n (omega arith))
 
--- One number more of a block.
+-- One number more.
 pub all-next : (k : ℕ) (p : ℕ → Bool) (h b : Bool) → h ≡ allBelow k p → b ≡ p k → (h && b) ≡ allBelow (k + 1) p
 unfolding allBelow
 all-next k p h b e q = rw (add-one, e, q)
-
--- A block of m numbers behind the n that were passed.
-pub all-join : (n m : ℕ) (p : ℕ → Bool) → allBelow n p ≡ true → allBelow m (λ k. p (n + k)) ≡ true → allBelow (n + m) p ≡ true
-all-join n m p h g =
-    all-of (n + m) p λ i l.
-    elim (decLt i n) [
-      | yes k ↦ all-at n p h i k
-      | no k ↦ let same : n + (i - n) ≡ i = omega arith in subst (λ (j : ℕ). p j ≡ true) same (all-at m (λ k. p (n + k)) g (i - n) (omega arith))
-    ]

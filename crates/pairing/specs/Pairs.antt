@@ -9,19 +9,19 @@ use Rattle.paths.specs.Arrays.{arrayTree, arrayCost, across}
 use Rattle.frame.specs.Arrays.{Arrays}
 use Rattle.frame.specs.Answers.{rankOf, pairFrom}
 
--- A pair of links t and s: t in the tree, s not, s covers t, and the old cost of s is below that of t. The first p ranks
--- count.
+-- A pair of links t and s: t in the tree, s not, s covers t, and the old cost of s is below that of t. The first
+-- `trees` ranks count.
 unfoldable pub pairHeld : ℕ → ℕ → Arrays → ℕ → ℕ → Bool
-pairHeld edges p a t s =
+pairHeld edges trees a t s =
     ltb t edges &&
     arrayTree (a .links .mark) t &&
     ltb s edges &&
     not (arrayTree (a .links .mark) s) &&
-    across (a .mask) (getD (a .links .end₁) s 0) (getD (a .links .end₂) s 0) (rankOf (take p (a .ranks)) t) &&
+    across (a .mask) (getD (a .links .end₁) s 0) (getD (a .links .end₂) s 0) (rankOf (take trees (a .ranks)) t) &&
     ltb (arrayCost (a .links .cost) s) (arrayCost (a .links .cost) t)
 
 abbrev pub pairsHeld : ℕ → ℕ → Arrays → ℕ → List ℕ → Bool
-pairsHeld edges p a count ps = allBelow count λ i. pairHeld edges p a (pairFrom ps i .tree) (pairFrom ps i .spare)
+pairsHeld edges trees a count ps = allBelow count λ i. pairHeld edges trees a (pairFrom ps i .tree) (pairFrom ps i .spare)
 
 -- Two pairs in the order of the list; and every pair before pair i.
 abbrev pub pairLater : List ℕ → ℕ → ℕ → Bool

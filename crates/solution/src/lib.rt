@@ -44,19 +44,19 @@ fn join(ts: &[u32; 256], spare: Edge, m: u32, mate: &mut [u32; 256])
 pub fn partners(
     ts: &[u32; 256],
     ss: &[u32; 256],
-    q: usize,
+    spares: usize,
     mates: &[u32; 256],
     mate: &mut [u32; 256],
 )
-    requires spares { ⌜ Ranks q (now ss) ⌝ }
-    requires trees { ⌜ MatesRanked q (now mates) (now ts) ⌝ }
+    requires spares { ⌜ Ranks spares (now ss) ⌝ }
+    requires trees { ⌜ MatesRanked spares (now mates) (now ts) ⌝ }
     requires empty { ⌜ now mate ≡ replicate 256 0 ⌝ }
-    ensures mate { λ r. ⌜ ((p : ℕ) → ((s : ℕ) → s < q → getD (now (mates .entry)) s 0 ≤ p)
-        → (λ e. getD (now (mate .exit)) e 0) ≡ partners (take p (now (ts .entry))) (take q (now (ss .entry))) (λ s. getD (now (mates .entry)) s 0)) ⌝ }
+    ensures mate { λ r. ⌜ ((p : ℕ) → ((s : ℕ) → s < spares → getD (now (mates .entry)) s 0 ≤ p)
+        → (λ e. getD (now (mate .exit)) e 0) ≡ partners (take p (now (ts .entry))) (take spares (now (ss .entry))) (λ s. getD (now (mates .entry)) s 0)) ⌝ }
     ensures length { λ r. ⌜ length (now (mate .exit)) ≡ 256 ⌝ }
 {
     let mut rank: usize = 0;
-    while rank < q {
+    while rank < spares {
         let e = ss[rank];
         let m = mates[rank];
         join(ts, Edge(e), m, mate);

@@ -33,7 +33,7 @@ use Rattle.answer.specs.Contents.{matePairs, PairsListed}
 use Rattle.covering.specs.Rows.{covers, RanksFall, RanksRise, Ends}
 use Rattle.held.specs.Held.{Held}
 use Rattle.held.specs.HeldLaws.{few-nodes, tree-count, tree-price}
-use Rattle.solve.specs.Solving.{SparesRanked, RowsFilled, Matched}
+use Rattle.solve.specs.Solving.{SparesRanked, RowsFilled, MatesPlaced}
 
 module _ {j : Job} {n m : ℕ} {a : Arrays} (h : Held j n m a) where
   abbrev g : Graph
@@ -130,7 +130,7 @@ module _ {j : Job} {n m : ℕ} {a : Arrays} (h : Held j n m a) where
           }
 
   -- What the matching, the labels and the partners then are.
-  module _ {q : ℕ} {ss rows mates taken mates′ costs mate : List ℕ} (w : Matched (n - 1) m a q ss rows mates taken mates′ costs mate) where
+  module _ {q : ℕ} {ss rows mates taken mates′ costs mate : List ℕ} (w : MatesPlaced (n - 1) m a q ss rows mates taken mates′ costs mate) where
     mates-are : arrayMates mates ≡ matching pr
     mates-are = w .built .equal pr (tree-count h) (holds (w .ranks) rows (w .filled))
 

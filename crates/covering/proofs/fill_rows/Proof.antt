@@ -11,13 +11,13 @@ use Rattle.covering.proofs.fill_rows.Statement.{statement}
 use Rattle.covering.proofs.fill_rows.Tie as tie
 
 abbrev Inv-loop : tie.InvT-loop
-Inv-loop trees q cost ts ss end1 end2 mask rows₀ limit₀ s₀ rows limit s =
-    (s ≤ q) × (limit ≤ trees) × (length rows ≡ 256)
-    × ((t′ s′ : ℕ) → limit ≤ t′ → t′ < trees → s ≤ s′ → s′ < q → costAt cost ts t′ ≤ costAt cost ss s′)
+Inv-loop trees spares cost ts ss end1 end2 mask rows₀ limit₀ s₀ rows limit s =
+    (s ≤ spares) × (limit ≤ trees) × (length rows ≡ 256)
+    × ((t′ s′ : ℕ) → limit ≤ t′ → t′ < trees → s ≤ s′ → s′ < spares → costAt cost ts t′ ≤ costAt cost ss s′)
     × RowsHold cost ts ss end1 end2 mask trees s rows
 
 abbrev μ-loop : tie.MeasureT-loop
-μ-loop trees q cost ts ss end1 end2 mask rows₀ limit₀ s₀ rows limit s = q - s
+μ-loop trees spares cost ts ss end1 end2 mask rows₀ limit₀ s₀ rows limit s = spares - s
 
 -- the edge of the spare rank at hand
 edge-below : (c : tie.In-loop Inv-loop μ-loop) → getD (c .before .before .args .ss .now) (c .before .loop .s) 0 < 256
@@ -68,8 +68,8 @@ returns c =
     let l = d .before .before .before .before .before in
     let a = l .before .args in (
       rows-end (a .cost .now) (a .ts .now) (a .ss .now) (a .end1 .now) (a .end2 .now) (a .mask .now) (a .trees) (l .loop .rows)
-          (l .loop .s) (a .q) (l .loop .inv .0) (l .loop .inv .4)
-          (λ t s h m b. limit-cuts (a .cost .now) (a .ts .now) (a .ss .now) (a .trees) (a .q) (l .loop .limit) (d .dearer .result)
+          (l .loop .s) (a .spares) (l .loop .inv .0) (l .loop .inv .4)
+          (λ t s h m b. limit-cuts (a .cost .now) (a .ts .now) (a .ss .now) (a .trees) (a .spares) (l .loop .limit) (d .dearer .result)
           (l .loop .s) (omega arith) (d .dearer .ensures .0) (l .before .pre .1 .0 .1) (l .loop .inv .3) (d .dearer .ensures .1)
           t s (omega arith) h m b),
       l .loop .inv .2,
@@ -79,7 +79,7 @@ covered-requires : tie.Need-covered-requires Inv-loop μ-loop
 covered-requires c κs =
     let l = c .before .before .before .before .before .before in
     let p = l .before .pre .1 in
-    let below : l .loop .s < l .before .args .q = omega arith in
+    let below : l .loop .s < l .before .args .spares = omega arith in
     (p .0 .0 .edges (l .loop .s) below, p .1 .0 .first (l .loop .s) below, p .1 .0 .second (l .loop .s) below)
 
 below-requires : tie.Need-below-requires Inv-loop μ-loop
@@ -115,13 +115,13 @@ loop-again c =
       omega arith,
       omega (arith, d .dearer .ensures .0, l .loop .inv .1),
       c .fill .ensures .1,
-      λ t s h m k. limit-cuts (a .cost .now) (a .ts .now) (a .ss .now) (a .trees) (a .q) (l .loop .limit) (d .dearer .result)
+      λ t s h m k. limit-cuts (a .cost .now) (a .ts .now) (a .ss .now) (a .trees) (a .spares) (l .loop .limit) (d .dearer .result)
           (l .loop .s) here (d .dearer .ensures .0) (l .before .pre .1 .0 .1) (l .loop .inv .3) (d .dearer .ensures .1)
           t s h m (omega arith),
       rows-turn (a .cost .now) (a .ts .now) (a .ss .now) (a .end1 .now) (a .end2 .now) (a .mask .now) (a .trees) (l .loop .rows)
           (c .fill .last .1 .1 .0) (l .loop .s) (v .covered .result) (w .below .result) (b .both .result) (d .dearer .result)
           (l .loop .inv .4) (v .covered .ensures)
-          (limit-all (a .cost .now) (a .ts .now) (a .ss .now) (a .trees) (a .q) (l .loop .limit) (d .dearer .result)
+          (limit-all (a .cost .now) (a .ts .now) (a .ss .now) (a .trees) (a .spares) (l .loop .limit) (d .dearer .result)
           (l .loop .s) here (d .dearer .ensures .0) (l .before .pre .1 .0 .1) (l .loop .inv .3) (d .dearer .ensures .1))
           (w .below .ensures) (b .both .ensures) (c .fill .ensures .0),
     )
@@ -131,7 +131,7 @@ returns-2 c =
     let l = c .before in
     let a = l .before .args in (
       rows-end (a .cost .now) (a .ts .now) (a .ss .now) (a .end1 .now) (a .end2 .now) (a .mask .now) (a .trees) (l .loop .rows)
-          (l .loop .s) (a .q) (l .loop .inv .0) (l .loop .inv .4) (λ t s h m b. absurd (omega arith)),
+          (l .loop .s) (a .spares) (l .loop .inv .0) (l .loop .inv .4) (λ t s h m b. absurd (omega arith)),
       l .loop .inv .2,
     )
 

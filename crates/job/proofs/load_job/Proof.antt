@@ -10,7 +10,7 @@ use lib.Seq.{take-all}
 use Rattle.frame.specs.Questions.{jobOf, question4, question5}
 use Rattle.job.specs.declared.Header.{Header}
 use Rattle.frame.specs.Arrays.{Columns, columns}
-use Rattle.job.specs.Reading.{LinksLoaded, loaded, filled}
+use Rattle.job.specs.Reading.{LinksLoaded, linksLoaded, filled}
 use Rattle.links.specs.Columns.{endsHold, marksHold}
 use Rattle.job.specs.FormLaws.{CountsPassed, counts-passed, counts-refused, links-left, links-read}
 use Rattle.job.specs.FormLaws.{ends-read, marks-read, ends-refused, marks-refused, form-passed}
@@ -46,7 +46,7 @@ filled-in k =
     let a = e .before .before .before .args in
     ap (λ (l : LinksLoaded). l .links)
     (k .read-links .ensures ∙ links-read (a .frame .now) (e .before .read-counts .result) (passing e) _ (behind-counts e)
-    (loaded 0 (columns (a .end1 .now) (a .end2 .now) (a .cost .now) (a .mark .now))) refl)
+    (linksLoaded 0 (columns (a .end1 .now) (a .end2 .now) (a .cost .now) (a .mark .now))) refl)
 
 -- question 4, as it was put over the arrays
 ends-answer :

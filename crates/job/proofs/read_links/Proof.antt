@@ -7,7 +7,7 @@ use Rattle.loops.specs.Loop.{scan}
 use Rattle.loops.specs.ScanLaws.{scan-start, scan-end}
 use Rattle.codec.specs.Numbers.{Divided}
 use Rattle.frame.specs.Arrays.{columns}
-use Rattle.job.specs.Reading.{loaded, loadLink, loadLinks}
+use Rattle.job.specs.Reading.{linksLoaded, loadLink, loadLinks}
 use Rattle.job.specs.LoadLaws.{load-turn}
 use Rattle.codec.specs.NumberLaws.{divided-stands, divided-next}
 use Rattle.job.proofs.read_links.Statement.{statement}
@@ -16,7 +16,7 @@ use Rattle.job.proofs.read_links.Tie as tie
 abbrev Inv-loop : tie.InvT-loop
 Inv-loop part edges end1₀ end2₀ cost₀ mark₀ at₀ e₀ end1 end2 cost mark at e =
     (e ≤ edges) ×
-    (scan (loadLink part) (edges - e) e (loaded at (columns end1 end2 cost mark)) ≡ loadLinks part edges (loaded 0 (columns end1₀ end2₀ cost₀ mark₀))) ×
+    (scan (loadLink part) (edges - e) e (linksLoaded at (columns end1 end2 cost mark)) ≡ loadLinks part edges (linksLoaded 0 (columns end1₀ end2₀ cost₀ mark₀))) ×
     Divided part at (4 * (edges - e))
 
 abbrev μ-loop : tie.MeasureT-loop
@@ -98,7 +98,7 @@ loop-again c =
     let k = c .before .before .before in
     let l = k .before .before .loop in (
       omega arith,
-      load-turn _ _ (l .e) (loaded (l .at) (columns (l .end1) (l .end2) (l .cost) (l .mark))) _ (l .inv .1) (k .before .loop-test .taken) _ _ _ _ _ _ _ _
+      load-turn _ _ (l .e) (linksLoaded (l .at) (columns (l .end1) (l .end2) (l .cost) (l .mark))) _ (l .inv .1) (k .before .loop-test .taken) _ _ _ _ _ _ _ _
           (k .read-known .ensures) (c .before .before .read-known2 .ensures) (c .before .read-known3 .ensures) (c .read-known4 .ensures),
       divided-next _ _ _ (left-4 (c .before)) _ _ _ (omega (arith, k .before .loop-test .taken)) (c .read-known4 .ensures),
     )

@@ -1,26 +1,23 @@
--- `links::ends_hold` meets its contract. The loop's invariant: the question holds of the links passed. Assumes nothing.
+-- `links::ends_hold` meets its contract. The loop's invariant: question 4 of the links passed is what `holds` says. Assumes nothing.
 use Prim.Native.Nat.{_-_, _≤_}
-use mathlib.Core.Path.{_≡_, sym, _∙_}
-use mathlib.Core.Bool.{true}
 use native.Mathlib.Omega.{arith}
-use borrow.Author.Needs.{needs}
-use borrow.Author.Tests.{not-true, not-false}
-use Rattle.loops.specs.TestLaws.{all-miss, all-more}
+use mathlib.Core.Path.{_≡_, refl}
+use Rattle.loops.specs.Below.{allBelow}
+use Rattle.loops.specs.TestLaws.{all-next}
 use Rattle.links.specs.Columns.{apartAt, endsHold}
+use borrow.Author.Needs.{needs}
 use Rattle.links.proofs.ends_hold.Statement.{statement}
 use Rattle.links.proofs.ends_hold.Tie as tie
 
 abbrev Inv-loop : tie.InvT-loop
-Inv-loop nodes edges end1 end2 e₀ e = (e ≤ edges) × (endsHold nodes e end1 end2 ≡ true)
+Inv-loop nodes edges end1 end2 holds₀ e₀ holds e = (e ≤ edges) × (holds ≡ endsHold nodes e end1 end2)
 
 abbrev μ-loop : tie.MeasureT-loop
-μ-loop nodes edges end1 end2 e₀ e = edges - e
-
-pass-ends-requires : tie.Need-pass-ends-requires Inv-loop μ-loop
-pass-ends-requires c κs = search needs
+μ-loop nodes edges end1 end2 holds₀ e₀ holds e = edges - e
 
 loop-holds : tie.Need-loop-holds Inv-loop μ-loop
-loop-holds c = c .pass-ends .ensures
+unfolding allBelow
+loop-holds c = (omega arith, refl)
 
 mul-ends-apart : tie.Need-mul-ends-apart Inv-loop μ-loop
 mul-ends-apart c = omega arith
@@ -37,14 +34,6 @@ element-copy-out-ends-apart-2 c = omega arith
 ends-apart-requires : tie.Need-ends-apart-requires Inv-loop μ-loop
 ends-apart-requires c κs = search needs
 
-returns : tie.Need-returns Inv-loop μ-loop
-returns c =
-    let k = c .before .before .before .before in
-    let l = k .before in
-    let a = l .before .before .args in
-    sym (all-miss (a .edges) (apartAt (a .nodes) (a .end1 .now) (a .end2 .now)) (l .loop .e) (k .loop-test .taken)
-    (sym (c .before .ends-apart .ensures) ∙ not-true _ (c .if1 .taken)))
-
 add-e : tie.Need-add-e Inv-loop μ-loop
 add-e c = omega arith
 
@@ -53,17 +42,12 @@ loop-less c = omega arith
 
 loop-again : tie.Need-loop-again Inv-loop μ-loop
 loop-again c =
-    let l = c .before .before .before .before .before in
-    let a = l .before .before .args in (
-      omega arith,
-      all-more (l .loop .e) (apartAt (a .nodes) (a .end1 .now) (a .end2 .now)) (l .loop .inv .1)
-          (sym (c .before .ends-apart .ensures) ∙ not-false _ (c .if1 .left)),
-    )
+    let l = c .before .before .before .before in
+    let a = l .before .args in
+    (omega arith, all-next (l .loop .e) (apartAt (a .nodes) (a .end1 .now) (a .end2 .now)) _ _ (l .loop .inv .1) (c .ends-apart .ensures))
 
-returns-2 : tie.Need-returns-2 Inv-loop μ-loop
-returns-2 c =
-    let all : c .before .loop .e ≡ c .before .before .before .args .edges = omega arith in
-    sym (rw all at (c .before .loop .inv .1))
+returns : tie.Need-returns Inv-loop μ-loop
+returns c = let all : c .before .loop .e ≡ c .before .before .args .edges = omega arith in rw all at (c .before .loop .inv .1)
 
 pub ends-hold-spec : {M : Type 1} → statement M
 ends-hold-spec =
@@ -71,15 +55,13 @@ ends-hold-spec =
     (tie.spec
     Inv-loop
     μ-loop
-    pass-ends-requires
     loop-holds
     mul-ends-apart
     element-copy-out-ends-apart
     mul-ends-apart-2
     element-copy-out-ends-apart-2
     ends-apart-requires
-    returns
     add-e
     loop-less
     loop-again
-    returns-2)
+    returns)

@@ -1,41 +1,28 @@
--- `links::marks_hold` meets its contract. The loop's invariant: the question holds of the links passed. Assumes nothing.
+-- `links::marks_hold` meets its contract. The loop's invariant: question 5 of the links passed is what `holds` says. Assumes nothing.
 use Prim.Native.Nat.{_-_, _≤_}
-use mathlib.Core.Path.{_≡_, sym}
-use mathlib.Core.Bool.{true}
 use native.Mathlib.Omega.{arith}
-use lib.ListN.{getD}
-use borrow.Author.Needs.{needs}
-use borrow.Author.Tests.{le-leb, lt-leb}
-use Rattle.loops.specs.TestLaws.{all-miss, all-more}
+use mathlib.Core.Path.{_≡_, refl}
+use Rattle.loops.specs.Below.{allBelow}
+use Rattle.loops.specs.TestLaws.{all-next}
 use Rattle.links.specs.Columns.{markedAt, marksHold}
 use Rattle.links.proofs.marks_hold.Statement.{statement}
 use Rattle.links.proofs.marks_hold.Tie as tie
 
 abbrev Inv-loop : tie.InvT-loop
-Inv-loop edges mark e₀ e = (e ≤ edges) × (marksHold e mark ≡ true)
+Inv-loop edges mark holds₀ e₀ holds e = (e ≤ edges) × (holds ≡ marksHold e mark)
 
 abbrev μ-loop : tie.MeasureT-loop
-μ-loop edges mark e₀ e = edges - e
-
-pass-marks-requires : tie.Need-pass-marks-requires Inv-loop μ-loop
-pass-marks-requires c κs = search needs
+μ-loop edges mark holds₀ e₀ holds e = edges - e
 
 loop-holds : tie.Need-loop-holds Inv-loop μ-loop
-loop-holds c = c .pass-marks .ensures
+unfolding allBelow
+loop-holds c = (omega arith, refl)
 
-mul-m : tie.Need-mul-m Inv-loop μ-loop
-mul-m c = omega arith
+mul-holds : tie.Need-mul-holds Inv-loop μ-loop
+mul-holds c = omega arith
 
-element-copy-out-m : tie.Need-element-copy-out-m Inv-loop μ-loop
-element-copy-out-m c = omega arith
-
-returns : tie.Need-returns Inv-loop μ-loop
-returns c =
-    let k = c .before .before in
-    let l = k .before in
-    let a = l .before .before .args in
-    sym (all-miss (a .edges) (markedAt (a .mark .now)) (l .loop .e) (k .loop-test .taken)
-    (lt-leb (getD (a .mark .now) (l .loop .e) 0) 1 (omega (arith, c .if1 .taken))))
+element-copy-out-holds : tie.Need-element-copy-out-holds Inv-loop μ-loop
+element-copy-out-holds c = omega arith
 
 add-e : tie.Need-add-e Inv-loop μ-loop
 add-e c = omega arith
@@ -45,13 +32,11 @@ loop-less c = omega arith
 
 loop-again : tie.Need-loop-again Inv-loop μ-loop
 loop-again c =
-    let l = c .before .before .before in
-    (omega arith, all-more (l .loop .e) (markedAt (l .before .before .args .mark .now)) (l .loop .inv .1) (le-leb _ 1 (c .if1 .left)))
+    let l = c .before .before in
+    (omega arith, all-next (l .loop .e) (markedAt (l .before .args .mark .now)) _ _ (l .loop .inv .1) refl)
 
-returns-2 : tie.Need-returns-2 Inv-loop μ-loop
-returns-2 c =
-    let all : c .before .loop .e ≡ c .before .before .before .args .edges = omega arith in
-    sym (rw all at (c .before .loop .inv .1))
+returns : tie.Need-returns Inv-loop μ-loop
+returns c = let all : c .before .loop .e ≡ c .before .before .args .edges = omega arith in rw all at (c .before .loop .inv .1)
 
 pub marks-hold-spec : {M : Type 1} → statement M
 marks-hold-spec =
@@ -59,12 +44,10 @@ marks-hold-spec =
     (tie.spec
     Inv-loop
     μ-loop
-    pass-marks-requires
     loop-holds
-    mul-m
-    element-copy-out-m
-    returns
+    mul-holds
+    element-copy-out-holds
     add-e
     loop-less
     loop-again
-    returns-2)
+    returns)

@@ -10,12 +10,12 @@ use Rattle.solution.proofs.partners.Statement.{statement}
 use Rattle.solution.proofs.partners.Tie as tie
 
 abbrev Inv-loop : tie.InvT-loop
-Inv-loop ts ss q mates mate₀ rank₀ mate rank =
-    (rank ≤ q) × (length mate ≡ 256)
-    × (partnersFrom ts ss mates q rank (λ e. getD mate e 0) ≡ partners ts (take q ss) (λ s. getD mates s 0))
+Inv-loop ts ss spares mates mate₀ rank₀ mate rank =
+    (rank ≤ spares) × (length mate ≡ 256)
+    × (partnersFrom ts ss mates spares rank (λ e. getD mate e 0) ≡ partners ts (take spares ss) (λ s. getD mates s 0))
 
 abbrev μ-loop : tie.MeasureT-loop
-μ-loop ts ss q mates mate₀ rank₀ mate rank = q - rank
+μ-loop ts ss spares mates mate₀ rank₀ mate rank = spares - rank
 
 loop-holds : tie.Need-loop-holds Inv-loop μ-loop
 loop-holds c =
@@ -23,7 +23,7 @@ loop-holds c =
     let empty = c .pre .1 .1 in (
       omega arith,
       ap length empty ∙ length-replicate {A = ℕ} 256 0,
-      partners-start (a .ts .now) (a .ss .now) (a .mates .now) (a .q) (a .mate .now) empty,
+      partners-start (a .ts .now) (a .ss .now) (a .mates .now) (a .spares) (a .mate .now) empty,
     )
 
 mul-e : tie.Need-mul-e Inv-loop μ-loop
@@ -57,7 +57,7 @@ loop-again c =
     let a = l .before .args in (
       omega arith,
       c .join .ensures .1,
-      sym (partners-turn (a .ts .now) (a .ss .now) (a .mates .now) (a .q) (l .before .pre .0) (l .loop .rank) _ _ (omega arith)
+      sym (partners-turn (a .ts .now) (a .ss .now) (a .mates .now) (a .spares) (l .before .pre .0) (l .loop .rank) _ _ (omega arith)
           (c .join .ensures .0))
           ∙ l .loop .inv .2,
     )
@@ -66,9 +66,9 @@ returns : tie.Need-returns Inv-loop μ-loop
 returns c =
     let l = c .before in
     let a = l .before .args in
-    let done : a .q ≤ l .loop .rank = omega arith in (
-      λ p most. sym (partners-end (a .ts .now) (a .ss .now) (a .mates .now) (a .q) (l .before .pre .0) (l .loop .rank) _ done) ∙ l .loop .inv .2
-          ∙ partners-part (a .ts .now) (a .ss .now) (a .mates .now) (a .q) p most,
+    let done : a .spares ≤ l .loop .rank = omega arith in (
+      λ p most. sym (partners-end (a .ts .now) (a .ss .now) (a .mates .now) (a .spares) (l .before .pre .0) (l .loop .rank) _ done) ∙ l .loop .inv .2
+          ∙ partners-part (a .ts .now) (a .ss .now) (a .mates .now) (a .spares) p most,
       l .loop .inv .1,
     )
 

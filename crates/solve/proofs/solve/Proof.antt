@@ -10,7 +10,7 @@ use Rattle.sets.specs.SetsLaws.{member-none}
 use Rattle.links.specs.ColumnLaws.{zero-at}
 use Rattle.held.specs.Held.{Held}
 use Rattle.held.specs.HeldLaws.{some-node, few-nodes, few-links, tree-edge}
-use Rattle.solve.specs.Solving.{SparesRanked, Matched}
+use Rattle.solve.specs.Solving.{SparesRanked, MatesPlaced}
 use Rattle.solve.specs.SolveLaws.{tree-order, few-spares, spare-edges, spare-order, spare-ends, few-pairs, small-steps, answer-is}
 use Rattle.solve.proofs.solve.Statement.{statement}
 use Rattle.solve.proofs.solve.Tie as tie
@@ -49,17 +49,17 @@ ranked sr = let e = sr .spare-ranks .ensures in record { size = e .0; ranked = e
 most-spares : (sr : tie.After-spare-ranks) → sr .spare-ranks .result ≤ 256
 most-spares sr = few-spares (held (start-of sr)) (ranked sr)
 
-matched :
+placed :
     (pa : tie.After-partners) →
     let nc = costs-of pa in
     let bu = build-of nc in
     let f = rows-of bu in
     let sr = spares-of f in
     let t = start-of sr in
-    Matched (t .args .nodes - 1) (t .args .edges) (arrays-of t) (sr .spare-ranks .result) (ss-of sr) (f .fill-rows .last .1 .1 .1 .1 .1 .1 .1 .1 .0)
+    MatesPlaced (t .args .nodes - 1) (t .args .edges) (arrays-of t) (sr .spare-ranks .result) (ss-of sr) (f .fill-rows .last .1 .1 .1 .1 .1 .1 .1 .1 .0)
     (bu .build .last .1 .1 .1 .1 .1 .1 .0) (bu .build .last .1 .1 .1 .1 .1 .1 .1 .0) (nc .new-costs .last .1 .1 .1 .1 .1 .1 .1 .0)
     (nc .new-costs .last .1 .1 .1 .1 .1 .1 .1 .1 .1 .0) (pa .partners .last .1 .1 .1 .1 .0)
-matched pa =
+placed pa =
     let nc = costs-of pa in
     let bu = build-of nc in
     let f = rows-of bu in
@@ -172,20 +172,20 @@ list-pairs-requires : tie.Need-list-pairs-requires
 list-pairs-requires c κs =
     let pa = c .before .before .before .before in
     let t = start-of (spares-of (rows-of (build-of (costs-of pa)))) in
-    (few-links (held t), (few-pairs (held t) (matched pa), t .pre .1 .1))
+    (few-links (held t), (few-pairs (held t) (placed pa), t .pre .1 .1))
 
 cast-t28 : tie.Need-cast-t28
 cast-t28 c =
     let n = c .before .before .before in
     let pa = n .before .before in
-    omega (arith, n .steps .ensures, small-steps (held (start-of (spares-of (rows-of (build-of (costs-of pa)))))) (matched pa))
+    omega (arith, n .steps .ensures, small-steps (held (start-of (spares-of (rows-of (build-of (costs-of pa)))))) (placed pa))
 
 returns : tie.Need-returns
 returns c =
     let n = c .before .before .before in
     let pa = n .before .before in
     let t = start-of (spares-of (rows-of (build-of (costs-of pa)))) in
-    let w = matched pa in (
+    let w = placed pa in (
       omega (arith, c .list-pairs .ensures .count, few-pairs (held t) w),
       λ j h. answer-is h w (n .steps .result) (c .list-pairs .result) _ (n .steps .ensures) (c .list-pairs .ensures),
     )
