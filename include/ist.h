@@ -14,7 +14,7 @@
  *     ist_answer        16,000    ist_answer_list        20,100
  *     ist_judge          8,100    ist_judge_list         16,300
  *     ist_judge_answer   8,100    ist_judge_answer_list  16,300
- *     ist_find_link      8,100    ist_find_cost_list     16,300
+ *     ist_find_link      8,100    ist_find_cost_list     16,400
  *     ist_find_cost      8,200    ist_write_job          20,400
  *     ist_read_job      15,300    ist_read_answer        11,400
  *

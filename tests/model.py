@@ -22,16 +22,16 @@ import brute_force as reference
 from brute_force import Answer, Job, Link, Solution
 
 ROOT = Path(__file__).resolve().parent.parent
-STANDS_ON = "frame optimum graph loops leb128"
+STANDS_ON = "frame optimum graph number loops limits"
 FACTS_A_FILE = 400
 
 # The modules that hold the model: what is `unfoldable` in them is unfolded in every fact.
 MODEL = {
-    "loops": ["Loop"],
-    "leb128": ["Number"],
+    "loops": ["Below", "Loop"],
+    "number": ["Number"],
     "graph": ["Rank", "Paths"],
     "optimum": ["Search", "Lowest", "Solve"],
-    "frame": ["Questions", "Answers", "Services"],
+    "frame": ["Meaning", "Services", "Questions", "Answers"],
 }
 LIBRARY = ["mathlib.Core.List.flatMap", "mathlib.Core.Bool.xor"]
 
@@ -44,10 +44,12 @@ use mathlib.Core.Option.{Option·getD}
 use lib.Dec.{eqb}
 use lib.ListN.{length}
 use Rattle.optimum.specs.Optimum.{Answer}
-use Rattle.frame.specs.Job.{Edge, Job, jobFrame}
-use Rattle.frame.specs.Questions.{refusal, jobOf}
-use Rattle.frame.specs.Answers.{answerFrame, answerOf, judgeTree, judgeAnswer, readAnswer}
-use Rattle.frame.specs.Services.{Outcome, answered, listRefusal, linkPart, costPart, noAnswer}
+use Rattle.frame.specs.Job.{JobLink, Job, jobFrame}
+use Rattle.frame.specs.Questions.{refusal, jobOf, listRefusal}
+use Rattle.frame.specs.AnswerMeaning.{answerFrame}
+use Rattle.frame.specs.Answers.{answerOf, judgeTree, judgeAnswer, readAnswer}
+use Rattle.frame.specs.Services.{Outcome}
+use Rattle.frame.specs.Replies.{answered, linkPart, costPart, noAnswer}
 
 abbrev same : List ℕ → List ℕ → Bool
 same [] [] = true
