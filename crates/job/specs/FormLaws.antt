@@ -21,7 +21,8 @@ use Rattle.frame.specs.RoundTrip.{length-links}
 use Rattle.job.specs.declared.Counts.{Counts}
 use Rattle.codec.specs.Numbers.{Divided}
 use Rattle.job.specs.Reading.{LinksLoaded, linksLoaded, loadLinks, filled, countsOf, refusedCounts, header, headerOf}
-use Rattle.links.specs.Columns.{firsts, seconds, marks, endsApart, endsHold, marksHold}
+use Rattle.frame.specs.Arrays.{Columns}
+use Rattle.links.specs.Columns.{firsts, seconds, marks, endsApart, endsHold, marksHold, linksRefusal, Places}
 use Rattle.job.specs.LoadLaws.{load-all}
 use Rattle.codec.specs.NumberLaws.{parts-join, drop-divides}
 use Rattle.links.specs.ColumnLaws.{column}
@@ -130,7 +131,7 @@ module _ (s : List ℕ) (k : Counts) (p : CountsPassed s k) where
       ap (λ (ls : List JobLink). linksLoaded (length part) (filled ls 0 (l .links))) (sym (p .links))
 
   -- Questions 4 and 5 over arrays are those of the job.
-  pub ends-read :
+  ends-read :
       (as₁ as₂ : List ℕ) →
       length as₁ ≡ 256 →
       length as₂ ≡ 256 →
@@ -152,7 +153,7 @@ module _ (s : List ℕ) (k : Counts) (p : CountsPassed s k) where
       ls : List JobLink
       ls = j .links
 
-  pub marks-read : (as₄ : List ℕ) → length as₄ ≡ 256 → marksHold (k .edges) (sets as₄ 0 (marks (jobOf s .links))) ≡ question5 (jobOf s)
+  marks-read : (as₄ : List ℕ) → length as₄ ≡ 256 → marksHold (k .edges) (sets as₄ 0 (marks (jobOf s .links))) ≡ question5 (jobOf s)
   unfolding question5
   marks-read as₄ h =
       rw (← p .edges)
@@ -162,21 +163,19 @@ module _ (s : List ℕ) (k : Counts) (p : CountsPassed s k) where
       ls : List JobLink
       ls = jobOf s .links
 
+  -- The first refusal of the two is that of the frame.
+  pub links-asked :
+      (c : Columns) → Places c →
+      let d = filled (jobOf s .links) 0 c in linksRefusal (k .nodes) (k .edges) (d .end₁) (d .end₂) (d .mark) ≡ formRefusal s
+  links-asked c h = rw (ends-read (c .end₁) (c .end₂) (h .end₁) (h .end₂), marks-read (c .mark) (h .mark)) (sym (p .form))
+
   -- What the reader then says.
-  pub ends-refused : question4 (jobOf s) ≡ false → record { refusal = 4; nodes = 0; edges = 0 } ≡ headerOf s
+  pub form-passed : formRefusal s ≡ 0 → record { refusal = 0; nodes = k .nodes; edges = k .edges } ≡ headerOf s
   unfolding header
-  ends-refused n =
-      let four : formRefusal s ≡ 4 = p .form ∙ rw n in
-      sym (ap (λ (r : ℕ). header r (jobOf s)) four)
+  form-passed z =
+      (λ i. record { refusal = 0; nodes = sym (p .nodes) i; edges = sym (p .edges) i }) ∙ sym (ap (λ (r : ℕ). header r (jobOf s)) z)
 
-  pub marks-refused : question4 (jobOf s) ≡ true → question5 (jobOf s) ≡ false → record { refusal = 5; nodes = 0; edges = 0 } ≡ headerOf s
-  unfolding header
-  marks-refused y n =
-      let five : formRefusal s ≡ 5 = p .form ∙ rw (y, n) in
-      sym (ap (λ (r : ℕ). header r (jobOf s)) five)
-
-  pub form-passed : question4 (jobOf s) ≡ true → question5 (jobOf s) ≡ true → record { refusal = 0; nodes = k .nodes; edges = k .edges } ≡ headerOf s
-  unfolding header
-  form-passed y₄ y₅ =
-      let zero : formRefusal s ≡ 0 = p .form ∙ rw (y₄, y₅) in
-      (λ i. record { refusal = 0; nodes = sym (p .nodes) i; edges = sym (p .edges) i }) ∙ sym (ap (λ (r : ℕ). header r (jobOf s)) zero)
+pub form-refused : (s : List ℕ) (r : ℕ) → r ≡ formRefusal s → (r ≡ 0 → ⊥) → record { refusal = r; nodes = 0; edges = 0 } ≡ headerOf s
+unfolding header
+form-refused s zero e n = absurd (n refl)
+form-refused s (suc r) e n = ap (λ (k : ℕ). header k (jobOf s)) e

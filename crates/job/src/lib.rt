@@ -16,8 +16,7 @@ use division::count_numbers;
 use ids::Edge;
 use limits::MOST_EDGES;
 use limits::MOST_NODES;
-use links::ends_hold;
-use links::marks_hold;
+use links::links_refusal;
 
 // The refusal by questions 1 to 3; or 0, the two counts and the position behind them.
 pub struct Counts {
@@ -144,13 +143,9 @@ pub fn load_job(
     let nodes = counts.nodes;
     let edges = counts.edges as usize;
     read_links(part, edges, end1, end2, cost, mark);
-    let apart = ends_hold(nodes, edges, end1, end2);
-    let marked = marks_hold(edges, mark);
-    if !apart {
-        return refused(4);
-    }
-    if !marked {
-        return refused(5);
+    let wrong = links_refusal(nodes, edges, end1, end2, mark);
+    if wrong != 0 {
+        return refused(wrong);
     }
     Header {
         refusal: 0,

@@ -8,6 +8,7 @@ use lib.ListN.{length, getD}
 use Rattle.loops.specs.Below.{allBelow}
 use Rattle.frame.specs.Job.{JobLink}
 use Rattle.frame.specs.Arrays.{Columns, linkAt}
+use Rattle.frame.specs.Questions.{ask}
 use Rattle.frame.specs.Services.{smallNumbers}
 
 -- The four columns of a list of links.
@@ -38,6 +39,10 @@ markedAt as₄ e = leb (getD as₄ e 0) 1
 
 abbrev pub marksHold : ℕ → List ℕ → Bool
 marksHold m as₄ = allBelow m (markedAt as₄)
+
+-- The first refusal of the two, or 0.
+abbrev pub linksRefusal : ℕ → ℕ → List ℕ → List ℕ → List ℕ → ℕ
+linksRefusal n m as₁ as₂ as₄ = ask (endsHold n m as₁ as₂) 4 λ _. ask (marksHold m as₄) 5 λ _. 0
 
 -- Question 1 over arrays.
 abbrev pub linksSmall : ℕ → Columns → Bool

@@ -13,7 +13,7 @@ use Rattle.limits.specs.Limits.{maxNumber, maxNodes, maxEdges}
 use Rattle.frame.specs.Services.{smallNumbers, small}
 use Rattle.frame.specs.Questions.{counted, listFormRefusal, question4, question5}
 use Rattle.frame.specs.Arrays.{Columns, linkAt, linksAt, jobAt}
-use Rattle.links.specs.Columns.{Places, endsApart, endsHold, marksHold, linksSmall}
+use Rattle.links.specs.Columns.{Places, endsApart, endsHold, marksHold, linksRefusal, linksSmall}
 use native.Mathlib.Decide.{decLt}
 use mathlib.Core.Logic.{⊎-elim}
 use lib.Dec.{leb}
@@ -117,14 +117,8 @@ module _ (nodes edges : ℕ) (c : Columns) where
         all-counted : counted (jobAt nodes edges c) ≡ true
         all-counted = list-counted ∙ rw (le-leb 1 nodes k₁, le-leb nodes maxNodes k₂, le-leb edges maxEdges k₃)
 
-        pub check-ends : endsHold nodes edges (c .end₁) (c .end₂) ≡ false → listFormRefusal (jobAt nodes edges c) ≡ 4
-        check-ends n = rw (all-small, all-counted, list-ends, n)
-
-        pub check-marks : endsHold nodes edges (c .end₁) (c .end₂) ≡ true → marksHold edges (c .mark) ≡ false → listFormRefusal (jobAt nodes edges c) ≡ 5
-        check-marks y n = rw (all-small, all-counted, list-ends, y, list-marks, n)
-
-        pub check-passed : endsHold nodes edges (c .end₁) (c .end₂) ≡ true → marksHold edges (c .mark) ≡ true → listFormRefusal (jobAt nodes edges c) ≡ 0
-        check-passed y₄ y₅ = rw (all-small, all-counted, list-ends, y₄, list-marks, y₅)
+        pub check-links : listFormRefusal (jobAt nodes edges c) ≡ linksRefusal nodes edges (c .end₁) (c .end₂) (c .mark)
+        check-links = rw (all-small, all-counted, list-ends, list-marks)
 
     pub check-large-nodes : maxNumber < nodes → listFormRefusal (jobAt nodes edges c) ≡ 1
     check-large-nodes l = rw (list-small, lt-leb nodes maxNumber l)

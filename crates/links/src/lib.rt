@@ -2,7 +2,7 @@
 ghost use mathlib.Core.Path.{_≡_};
 ghost use Prim.Native.Nat.{_≤_, min};
 ghost use Rattle.limits.specs.Limits.{maxEdges};
-ghost use Rattle.links.specs.Columns.{endsApart, endsHold, marksHold, Places, linksSmall};
+ghost use Rattle.links.specs.Columns.{endsApart, endsHold, marksHold, linksRefusal, Places, linksSmall};
 ghost use Rattle.frame.specs.Arrays.{columns, jobAt};
 ghost use Rattle.frame.specs.Questions.{listFormRefusal};
 use limits::MOST_COUNT;
@@ -25,7 +25,7 @@ fn ends_apart(nodes: u32, a: u32, b: u32) -> bool
 
 // Question 4 over arrays: every link's ends are below the station count and different. No exit inside the loop: the compiler
 // makes vector code of it.
-pub fn ends_hold(nodes: u32, edges: usize, end1: &[u32; 256], end2: &[u32; 256]) -> bool
+fn ends_hold(nodes: u32, edges: usize, end1: &[u32; 256], end2: &[u32; 256]) -> bool
     requires { ⌜ edges ≤ 256 ⌝ }
     ensures { λ r. ⌜ r ≡ endsHold nodes edges (now (end1 .entry)) (now (end2 .entry)) ⌝ }
 {
@@ -40,7 +40,7 @@ pub fn ends_hold(nodes: u32, edges: usize, end1: &[u32; 256], end2: &[u32; 256])
 }
 
 // Question 5 over arrays: every mark is 0 or 1. No exit inside the loop, either.
-pub fn marks_hold(edges: usize, mark: &[u32; 256]) -> bool
+fn marks_hold(edges: usize, mark: &[u32; 256]) -> bool
     requires { ⌜ edges ≤ 256 ⌝ }
     ensures { λ r. ⌜ r ≡ marksHold edges (now (mark .entry)) ⌝ }
 {
@@ -51,6 +51,28 @@ pub fn marks_hold(edges: usize, mark: &[u32; 256]) -> bool
         e += 1;
     }
     holds
+}
+
+// Questions 4 and 5 over arrays: the first refusal of the two, or 0.
+pub fn links_refusal(
+    nodes: u32,
+    edges: usize,
+    end1: &[u32; 256],
+    end2: &[u32; 256],
+    mark: &[u32; 256],
+) -> u32
+    requires { ⌜ edges ≤ 256 ⌝ }
+    ensures { λ r. ⌜ r ≡ linksRefusal nodes edges (now (end1 .entry)) (now (end2 .entry)) (now (mark .entry)) ⌝ }
+{
+    let apart = ends_hold(nodes, edges, end1, end2);
+    let marked = marks_hold(edges, mark);
+    if !apart {
+        return 4;
+    }
+    if !marked {
+        return 5;
+    }
+    0
 }
 
 // Question 1 over arrays: every number of the first `edges` links is at most 16,383.
@@ -125,11 +147,5 @@ pub fn check_list(
     if MOST_COUNT < edges {
         return 2;
     }
-    if !ends_hold(nodes, edges, end1, end2) {
-        return 4;
-    }
-    if !marks_hold(edges, mark) {
-        return 5;
-    }
-    0
+    links_refusal(nodes, edges, end1, end2, mark)
 }

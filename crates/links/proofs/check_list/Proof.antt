@@ -7,7 +7,7 @@ use borrow.Author.Tests.{not-true, not-false}
 use Rattle.frame.specs.Arrays.{Columns, columns}
 use Rattle.links.specs.Columns.{linksSmall}
 use Rattle.links.specs.ListLaws.{check-large-nodes, check-large-edges, check-large, check-empty, check-nodes}
-use Rattle.links.specs.ListLaws.{check-edges, check-ends, check-marks, check-passed}
+use Rattle.links.specs.ListLaws.{check-edges, check-links}
 use borrow.Author.Needs.{needs}
 use Rattle.links.proofs.check_list.Statement.{statement}
 use Rattle.links.proofs.check_list.Tie as tie
@@ -74,47 +74,17 @@ returns-6 c =
     (c .before .before .before .before .before .before .before .if1 .left) (c .before .before .before .before .before .before .if2 .left)
     (c .before .before .if4 .left) (c .before .if5 .left) (omega (arith, c .if6 .taken)))
 
+links-refusal-requires : tie.Need-links-refusal-requires
+links-refusal-requires c κs = search needs
+
 returns-7 : tie.Need-returns-7
 returns-7 c =
-    let t = c .before .before .before .before .before .before .before .before .before .before in
+    let t = c .before .before .before .before .before .before .before .before .before in
     let a = t .args in
-    sym (check-ends (a .nodes) (a .edges) (held t) (t .pre)
-    (sym (small-answer (c .before .before .before .before .before .before)) ∙ not-false _ (c .before .before .before .before .before .if3 .left))
-    (c .before .before .before .before .before .before .before .before .before .if1 .left)
-    (c .before .before .before .before .before .before .before .before .if2 .left) (c .before .before .before .before .if4 .left)
-    (c .before .before .before .if5 .left) (c .before .before .if6 .left) (sym (c .before .ends-hold .ensures) ∙ not-true _ (c .if7 .taken)))
-
-returns-8 : tie.Need-returns-8
-returns-8 c =
-    let t = c .before .before .before .before .before .before .before .before .before .before .before .before in
-    let a = t .args in
-    sym (check-marks (a .nodes) (a .edges) (held t) (t .pre)
-    (sym (small-answer (c .before .before .before .before .before .before .before .before)) ∙
-    not-false _ (c .before .before .before .before .before .before .before .if3 .left))
-    (c .before .before .before .before .before .before .before .before .before .before .before .if1 .left)
-    (c .before .before .before .before .before .before .before .before .before .before .if2 .left)
-    (c .before .before .before .before .before .before .if4 .left) (c .before .before .before .before .before .if5 .left)
-    (c .before .before .before .before .if6 .left) (sym (c .before .before .before .ends-hold .ensures) ∙ not-false _ (c .before .before .if7 .left))
-    (sym (c .before .marks-hold .ensures) ∙ not-true _ (c .if8 .taken)))
-
-returns-9 : tie.Need-returns-9
-returns-9 c =
-    let t = c .before .before .before .before .before .before .before .before .before .before .before .before in
-    let a = t .args in
-    sym (check-passed (a .nodes) (a .edges) (held t) (t .pre)
-    (sym (small-answer (c .before .before .before .before .before .before .before .before)) ∙
-    not-false _ (c .before .before .before .before .before .before .before .if3 .left))
-    (c .before .before .before .before .before .before .before .before .before .before .before .if1 .left)
-    (c .before .before .before .before .before .before .before .before .before .before .if2 .left)
-    (c .before .before .before .before .before .before .if4 .left) (c .before .before .before .before .before .if5 .left)
-    (c .before .before .before .before .if6 .left) (sym (c .before .before .before .ends-hold .ensures) ∙ not-false _ (c .before .before .if7 .left))
-    (sym (c .before .marks-hold .ensures) ∙ not-false _ (c .if8 .left)))
-
-ends-hold-requires : tie.Need-ends-hold-requires
-ends-hold-requires c κs = search needs
-
-marks-hold-requires : tie.Need-marks-hold-requires
-marks-hold-requires c κs = search needs
+    c .links-refusal .ensures ∙ sym (check-links (a .nodes) (a .edges) (held t) (t .pre)
+    (sym (small-answer (c .before .before .before .before .before)) ∙ not-false _ (c .before .before .before .before .if3 .left))
+    (c .before .before .before .before .before .before .before .before .if1 .left) (c .before .before .before .before .before .before .before .if2 .left)
+    (c .before .before .before .if4 .left) (c .before .before .if5 .left) (c .before .if6 .left))
 
 pub check-list-spec : {M : Type 1} → statement M
 check-list-spec =
@@ -128,8 +98,5 @@ check-list-spec =
     returns-4
     returns-5
     returns-6
-    ends-hold-requires
-    returns-7
-    marks-hold-requires
-    returns-8
-    returns-9)
+    links-refusal-requires
+    returns-7)
