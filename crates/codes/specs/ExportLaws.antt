@@ -19,7 +19,7 @@ use Rattle.frame.specs.Services.{small, written}
 use Rattle.frame.specs.Meaning.{FirstNo, no1, no2, no3, no4, no5, no6, none}
 use Rattle.codec.specs.declared.Reply.{Reply}
 use Rattle.answering.specs.Answering.{Answered}
-use Rattle.lists.specs.ListServices.{ListWritten, ListAnswered, ListJudged}
+use Rattle.listed.specs.ListServices.{ListWritten, ListAnswered, ListJudged}
 use Rattle.judging.specs.Verdicts.{verdict, VerdictOn}
 use Rattle.judging.specs.declared.Verdict.{Verdict}
 use Rattle.judging.specs.declared.Verdict.the-variants.{Yes, No, Refused}

@@ -2,7 +2,7 @@
 // is proved by hand, and only hands the list's length, a test and a copy to its function of crate `ist_lists`.
 ghost use Rattle.judging.specs.Verdicts.{TreeJudged, AnswerJudged};
 ghost use Rattle.accept.specs.ListJobs.{listJob};
-ghost use Rattle.lists.specs.ListServices.{ListWritten, ListAnswered, ListJudged, ListCostLocated};
+ghost use Rattle.listed.specs.ListServices.{ListWritten, ListAnswered, ListJudged, ListCostLocated};
 ghost use Rattle.codes.specs.Exports.{Said, Replied};
 use records::Link;
 

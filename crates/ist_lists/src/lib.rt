@@ -2,7 +2,7 @@
 // service and carries its promise, with the reply or verdict in plain numbers.
 ghost use Rattle.judging.specs.Verdicts.{TreeJudged, AnswerJudged};
 ghost use Rattle.accept.specs.ListJobs.{listJob};
-ghost use Rattle.lists.specs.ListServices.{ListWritten, ListAnswered, ListJudged, ListCostLocated};
+ghost use Rattle.listed.specs.ListServices.{ListWritten, ListAnswered, ListJudged, ListCostLocated};
 ghost use Rattle.codes.specs.Exports.{Of, Said, Replied};
 use codes::code;
 use codes::number;
@@ -38,7 +38,7 @@ pub fn answer_copy(
     ensures { λ r. ⌜ Of count small links (λ ys. Replied (λ reply. ListAnswered (listJob stations ys) (now (area .entry)) reply (now (area .exit))) r
         (now (written .exit))) ⌝ }
 {
-    let reply = lists::answer_links(stations, count, small, links, area);
+    let reply = writing::answer_links(stations, count, small, links, area);
     *written = reply.length;
     number(reply.refusal)
 }
@@ -54,7 +54,7 @@ pub fn write_copy(
     ensures { λ r. ⌜ Of count small links (λ ys. Replied (λ reply. ListWritten (listJob stations ys) (now (area .entry)) reply (now (area .exit))) r
         (now (written .exit))) ⌝ }
 {
-    let frame = lists::write_links(stations, count, small, links, area);
+    let frame = writing::write_links(stations, count, small, links, area);
     *written = frame.length;
     number(frame.refusal)
 }

@@ -1,67 +1,21 @@
-// Services on lists of links. The list comes as its length, the word that its numbers are small and a copy of its first 256
-// links: so much a function over a lent list of records hands on. Each service promises its outcome for whatever it is given,
-// be it of a list or not; links of the copy behind the length do not count.
+// Services on lists of links that judge and find. The list comes as its length, the word that its numbers are small and a copy
+// of its first 256 links: so much a function over a lent list of records hands on. Each service promises its outcome for
+// whatever it is given, be it of a list or not; links of the copy behind the length do not count.
 ghost use mathlib.Core.Path.{_≡_};
 ghost use Rattle.judging.specs.Verdicts.{TreeJudged, AnswerJudged};
 ghost use Rattle.judging.specs.declared.Verdict.the-variants.{Refused};
-ghost use Rattle.answering.specs.Answering.{Untouched};
 ghost use Rattle.frame.specs.Services.{nowhere};
 ghost use Rattle.codec.specs.Numbers.{placeOf};
 ghost use Rattle.accept.specs.ListJobs.{Given};
-ghost use Rattle.lists.specs.ListServices.{ListWritten, ListAnswered, ListJudged, ListCostLocated};
+ghost use Rattle.listed.specs.ListServices.{ListJudged, ListCostLocated};
 use accept::accept_links;
-use answering::answer_held;
 use codec::Part;
-use codec::Reply;
 use finding::locate_cost_held;
 use ids::Edge;
 use judging::Verdict;
 use judging::judge_answer_held;
 use judging::judge_held;
 use records::Link;
-
-// Writes the job frame of a list of records into the area, or refuses it and writes nothing.
-pub fn write_links(
-    nodes: u32,
-    count: usize,
-    small: bool,
-    links: [Link; 256],
-    area: &mut [u8],
-) -> Reply
-    ensures { λ r. ⌜ Given nodes count small links (λ n. Untouched n (now (area .entry)) r (now (area .exit)))
-        (λ j. ListWritten j (now (area .entry)) r (now (area .exit))) ⌝ }
-{
-    let mut end1 = [0u32; 256];
-    let mut end2 = [0u32; 256];
-    let mut cost = [0u32; 256];
-    let mut mark = [0u32; 256];
-    let mut ts = [0u32; 256];
-    let mut mask = [0u64; 64];
-    let header = accept_links(
-        nodes,
-        count,
-        small,
-        links,
-        &mut end1,
-        &mut end2,
-        &mut cost,
-        &mut mark,
-        &mut ts,
-        &mut mask,
-    );
-    let edges = header.edges as usize;
-    job_write::write_job(
-        header.refusal,
-        header.nodes,
-        edges,
-        &end1,
-        &end2,
-        &cost,
-        &mark,
-        area,
-        0,
-    )
-}
 
 // Is the marked tree of a list of records cheapest?
 pub fn judge_links(nodes: u32, count: usize, small: bool, links: [Link; 256]) -> Verdict
@@ -117,47 +71,6 @@ pub fn judge_answer_links(
         &mut mask,
     );
     judge_answer_held(header, &end1, &end2, &cost, &mark, &ts, &mask, offered)
-}
-
-// Writes the answer to a list of records into the area, or refuses it and writes nothing.
-pub fn answer_links(
-    nodes: u32,
-    count: usize,
-    small: bool,
-    links: [Link; 256],
-    area: &mut [u8],
-) -> Reply
-    ensures { λ r. ⌜ Given nodes count small links (λ n. Untouched n (now (area .entry)) r (now (area .exit)))
-        (λ j. ListAnswered j (now (area .entry)) r (now (area .exit))) ⌝ }
-{
-    let mut end1 = [0u32; 256];
-    let mut end2 = [0u32; 256];
-    let mut cost = [0u32; 256];
-    let mut mark = [0u32; 256];
-    let mut ts = [0u32; 256];
-    let mut mask = [0u64; 64];
-    let header = accept_links(
-        nodes,
-        count,
-        small,
-        links,
-        &mut end1,
-        &mut end2,
-        &mut cost,
-        &mut mark,
-        &mut ts,
-        &mut mask,
-    );
-    answer_held(
-        header,
-        &mut end1,
-        &mut end2,
-        &cost,
-        &mut mark,
-        &ts,
-        &mask,
-        area,
-    )
 }
 
 // Where a link's new cost stands in the frame offered as an answer to a list of records; nowhere, of length 0, if the list is

@@ -163,7 +163,7 @@ fn long_links() -> [Link; 256] {
 
 // Writes the longest job into an area, and shows the number and the length.
 fn write_long(name: &[u8], area: &mut [u8]) {
-    let reply = lists::write_links(64, 256, true, long_links(), area);
+    let reply = writing::write_links(64, 256, true, long_links(), area);
     print_reply(name, reply.refusal, reply.length);
     io::write_all(1, b"\n");
 }

@@ -1,6 +1,6 @@
 -- `ist_lists::answer_copy` meets its contract: the reply's number and length. Assumes nothing.
 use mathlib.Core.Path.{refl}
-use Rattle.lists.specs.LentLaws.{lent-as, lent-answered}
+use Rattle.listed.specs.LentLaws.{lent-as, lent-answered}
 use Rattle.codes.specs.ExportLaws.{number-told, list-answered-most}
 use borrow.Author.Needs.{needs}
 use Rattle.ist_lists.proofs.answer_copy.Statement.{statement}

@@ -3,7 +3,7 @@ use Rattle.optimum.specs.Optimum.{Answer}
 use Rattle.frame.specs.Questions.{jobOf}
 use Rattle.frame.specs.Answers.{judgeAnswer}
 use Rattle.frame.specs.AnswerMeaning.{Certified}
-use Rattle.lists.specs.LentLaws.{lent-as, lent-judged}
+use Rattle.listed.specs.LentLaws.{lent-as, lent-judged}
 use Rattle.codes.specs.ExportLaws.{judged-sayable, code-told, list-sayable}
 use borrow.Author.Needs.{needs}
 use Rattle.ist_lists.proofs.judge_answer_copy.Statement.{statement}

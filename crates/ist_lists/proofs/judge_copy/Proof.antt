@@ -2,7 +2,7 @@
 use Rattle.frame.specs.Questions.{jobOf}
 use Rattle.frame.specs.Answers.{judgeTree}
 use Rattle.judging.specs.Verdicts.{Cheapest}
-use Rattle.lists.specs.LentLaws.{lent-as, lent-judged}
+use Rattle.listed.specs.LentLaws.{lent-as, lent-judged}
 use Rattle.codes.specs.ExportLaws.{judged-sayable, code-told, list-sayable}
 use borrow.Author.Needs.{needs}
 use Rattle.ist_lists.proofs.judge_copy.Statement.{statement}

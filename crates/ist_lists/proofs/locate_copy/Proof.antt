@@ -1,5 +1,5 @@
 -- `ist_lists::locate_copy` meets its contract: the part's offset and length. Assumes nothing.
-use Rattle.lists.specs.LentLaws.{lent-as, lent-located}
+use Rattle.listed.specs.LentLaws.{lent-as, lent-located}
 use borrow.Author.Needs.{needs}
 use Rattle.ist_lists.proofs.locate_copy.Statement.{statement}
 use Rattle.ist_lists.proofs.locate_copy.Tie as tie

@@ -1,6 +1,6 @@
 -- `ist_lists::write_copy` meets its contract: the reply's number and length. Assumes nothing.
 use mathlib.Core.Path.{refl}
-use Rattle.lists.specs.LentLaws.{lent-as, lent-written}
+use Rattle.listed.specs.LentLaws.{lent-as, lent-written}
 use Rattle.codes.specs.ExportLaws.{number-told, list-written-most}
 use borrow.Author.Needs.{needs}
 use Rattle.ist_lists.proofs.write_copy.Statement.{statement}

@@ -1,6 +1,6 @@
 -- `lists::judge_answer_links` meets its contract: the list is asked the six questions as its frame would be. Assumes nothing.
 use Rattle.judging.specs.Verdicts.{AnswerJudged}
-use Rattle.lists.specs.ListServiceLaws.{given-judged}
+use Rattle.listed.specs.ListServiceLaws.{given-judged}
 use borrow.Author.Needs.{needs}
 use Rattle.lists.proofs.judge_answer_links.Statement.{statement}
 use Rattle.lists.proofs.judge_answer_links.Tie as tie

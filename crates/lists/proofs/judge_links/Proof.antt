@@ -1,6 +1,6 @@
 -- `lists::judge_links` meets its contract: the list is asked the six questions as its frame would be. Assumes nothing.
 use Rattle.judging.specs.Verdicts.{TreeJudged}
-use Rattle.lists.specs.ListServiceLaws.{given-judged}
+use Rattle.listed.specs.ListServiceLaws.{given-judged}
 use borrow.Author.Needs.{needs}
 use Rattle.lists.proofs.judge_links.Statement.{statement}
 use Rattle.lists.proofs.judge_links.Tie as tie

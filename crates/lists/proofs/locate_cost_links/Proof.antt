@@ -1,5 +1,5 @@
 -- `lists::locate_cost_links` meets its contract: the list is asked the six questions as its frame would be. Assumes nothing.
-use Rattle.lists.specs.ListServiceLaws.{given-located}
+use Rattle.listed.specs.ListServiceLaws.{given-located}
 use borrow.Author.Needs.{needs}
 use Rattle.lists.proofs.locate_cost_links.Statement.{statement}
 use Rattle.lists.proofs.locate_cost_links.Tie as tie

@@ -10,7 +10,7 @@ use Rattle.records.proofs.load.Symbol as load-def
 use Rattle.records.proofs.load.Symbol.{name as #records·load}
 use Rattle.records.proofs.load.Met as load-thm
 use Rattle.accept.specs.ListJobs.{listJob}
-use Rattle.lists.specs.ListServices.{ListAnswered}
+use Rattle.listed.specs.ListServices.{ListAnswered}
 use Rattle.codes.specs.Exports.{Replied}
 use Rattle.ist.proofs.Lent.{Small, Load}
 use Rattle.ist.proofs.WriteEntry.{Says, Core, meets}

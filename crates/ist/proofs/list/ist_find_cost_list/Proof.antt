@@ -49,7 +49,7 @@ use Rattle.records.proofs.load.Symbol as load-def
 use Rattle.records.proofs.load.Symbol.{name as #records·load}
 use Rattle.records.proofs.load.Met as load-thm
 use Rattle.accept.specs.ListJobs.{listJob}
-use Rattle.lists.specs.ListServices.{ListCostLocated}
+use Rattle.listed.specs.ListServices.{ListCostLocated}
 use Rattle.codes.specs.Exports.{Of}
 use Rattle.ist.proofs.Lent.{Small, Load, Links, Own, calls-small, calls-load, copy-typed, copy-makes}
 use Rattle.ist_lists.proofs.locate_copy as core

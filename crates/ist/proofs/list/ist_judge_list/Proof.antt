@@ -47,7 +47,7 @@ use Rattle.records.proofs.load.Symbol as load-def
 use Rattle.records.proofs.load.Symbol.{name as #records·load}
 use Rattle.records.proofs.load.Met as load-thm
 use Rattle.accept.specs.ListJobs.{listJob}
-use Rattle.lists.specs.ListServices.{ListJudged}
+use Rattle.listed.specs.ListServices.{ListJudged}
 use Rattle.judging.specs.Verdicts.{TreeJudged}
 use Rattle.codes.specs.Exports.{Of, Said}
 use Rattle.ist.proofs.Lent.{Small, Load, Links, Own, calls-small, calls-load, copy-typed, copy-makes}

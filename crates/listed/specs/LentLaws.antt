@@ -26,8 +26,8 @@ use Rattle.judging.specs.VerdictLaws.{refused-judged}
 use Rattle.answering.specs.Answering.{Untouched}
 use Rattle.answering.specs.AnswerLaws.{answered-of}
 use Rattle.finding.specs.PartLaws.{cost-refused-nowhere}
-use Rattle.lists.specs.ListServices.{ListWritten, ListAnswered, ListJudged, ListCostLocated}
-use Rattle.lists.specs.ListServiceLaws.{untouched-written, small-written, large-written}
+use Rattle.listed.specs.ListServices.{ListWritten, ListAnswered, ListJudged, ListCostLocated}
+use Rattle.listed.specs.ListServiceLaws.{untouched-written, small-written, large-written}
 
 -- What is given of the list ys.
 abbrev pub Lent : ℕ → List Link → (ℕ → Type 0) → (Job → Type 0) → Type 0

@@ -1,8 +1,8 @@
--- `lists::answer_links` meets its contract: the list is asked the six questions as its frame would be. Assumes nothing.
-use Rattle.lists.specs.ListServiceLaws.{given-answered}
+-- `writing::answer_links` meets its contract: the list is asked the six questions as its frame would be. Assumes nothing.
+use Rattle.listed.specs.ListServiceLaws.{given-answered}
 use borrow.Author.Needs.{needs}
-use Rattle.lists.proofs.answer_links.Statement.{statement}
-use Rattle.lists.proofs.answer_links.Tie as tie
+use Rattle.writing.proofs.answer_links.Statement.{statement}
+use Rattle.writing.proofs.answer_links.Tie as tie
 
 accept-links-requires : tie.Need-accept-links-requires
 accept-links-requires c κs = search needs

@@ -1,9 +1,9 @@
--- `lists::write_links` meets its contract: the writer's core is handed the first refusal and the job in the arrays.
+-- `writing::write_links` meets its contract: the writer's core is handed the first refusal and the job in the arrays.
 -- Assumes nothing.
-use Rattle.lists.specs.ListServiceLaws.{given-few, given-written}
+use Rattle.listed.specs.ListServiceLaws.{given-few, given-written}
 use borrow.Author.Needs.{needs}
-use Rattle.lists.proofs.write_links.Statement.{statement}
-use Rattle.lists.proofs.write_links.Tie as tie
+use Rattle.writing.proofs.write_links.Statement.{statement}
+use Rattle.writing.proofs.write_links.Tie as tie
 
 accept-links-requires : tie.Need-accept-links-requires
 accept-links-requires c κs = search needs

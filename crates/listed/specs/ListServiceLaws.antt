@@ -31,7 +31,7 @@ use Rattle.judging.specs.declared.Verdict.{Verdict}
 use Rattle.judging.specs.declared.Verdict.the-variants.{Refused}
 use Rattle.answering.specs.Answering.{Answered, Untouched}
 use Rattle.finding.specs.Parts.{CostLocated}
-use Rattle.lists.specs.ListServices.{ListWritten, ListAnswered, ListJudged, ListCostLocated}
+use Rattle.listed.specs.ListServices.{ListWritten, ListAnswered, ListJudged, ListCostLocated}
 
 -- ---- a reply by the definition
 
