@@ -1,5 +1,5 @@
 // The functions for C over a lent list of link records. The borrow checker does not cover such a list: each function over it
-// is proved by hand, and only hands the list's length, a test and a copy to its function of crate `ist_lists`.
+// is proved by hand, and only hands the list's length, a test and a copy to its function of crate `ist_lists` or `ist_writers`.
 ghost use Rattle.judging.specs.Verdicts.{TreeJudged, AnswerJudged};
 ghost use Rattle.accept.specs.ListJobs.{listJob};
 ghost use Rattle.listed.specs.ListServices.{ListWritten, ListAnswered, ListJudged, ListCostLocated};
@@ -42,7 +42,7 @@ pub extern "C" fn ist_answer_list(
     let count = list.len();
     let small = records::all_small(list);
     let links = records::load(list);
-    ist_lists::answer_copy(stations, count, small, links, area, written)
+    ist_writers::answer_copy(stations, count, small, links, area, written)
 }
 
 // Writes the job frame of a list into the area.
@@ -59,7 +59,7 @@ pub extern "C" fn ist_write_job(
     let count = list.len();
     let small = records::all_small(list);
     let links = records::load(list);
-    ist_lists::write_copy(stations, count, small, links, area, written)
+    ist_writers::write_copy(stations, count, small, links, area, written)
 }
 
 // Where a link's new cost stands in a frame that is offered as an answer to a list.

@@ -1,11 +1,10 @@
-// The functions for C on a list of links, by its length, a test and a copy, which crate `ist` makes of a lent list: each calls one
-// service and carries its promise, with the reply or verdict in plain numbers.
+// The functions for C that judge a list of links or find a cost, by its length, a test and a copy, which crate `ist` makes of a
+// lent list: each calls one service and carries its promise, with the verdict in plain numbers.
 ghost use Rattle.judging.specs.Verdicts.{TreeJudged, AnswerJudged};
 ghost use Rattle.accept.specs.ListJobs.{listJob};
-ghost use Rattle.listed.specs.ListServices.{ListWritten, ListAnswered, ListJudged, ListCostLocated};
-ghost use Rattle.codes.specs.Exports.{Of, Said, Replied};
+ghost use Rattle.listed.specs.ListServices.{ListJudged, ListCostLocated};
+ghost use Rattle.codes.specs.Exports.{Of, Said};
 use codes::code;
-use codes::number;
 use ids::Edge;
 use records::Link;
 
@@ -25,38 +24,6 @@ pub fn judge_answer_copy(
     ensures { λ r. ⌜ Of count small links (λ ys. Said (ListJudged (listJob stations ys) (λ s. AnswerJudged s (now (answer .entry)))) r) ⌝ }
 {
     code(lists::judge_answer_links(stations, count, small, links, answer))
-}
-
-pub fn answer_copy(
-    stations: u32,
-    count: usize,
-    small: bool,
-    links: [Link; 256],
-    area: &mut [u8],
-    written: &mut usize,
-) -> i32
-    ensures { λ r. ⌜ Of count small links (λ ys. Replied (λ reply. ListAnswered (listJob stations ys) (now (area .entry)) reply (now (area .exit))) r
-        (now (written .exit))) ⌝ }
-{
-    let reply = writing::answer_links(stations, count, small, links, area);
-    *written = reply.length;
-    number(reply.refusal)
-}
-
-pub fn write_copy(
-    stations: u32,
-    count: usize,
-    small: bool,
-    links: [Link; 256],
-    area: &mut [u8],
-    written: &mut usize,
-) -> i32
-    ensures { λ r. ⌜ Of count small links (λ ys. Replied (λ reply. ListWritten (listJob stations ys) (now (area .entry)) reply (now (area .exit))) r
-        (now (written .exit))) ⌝ }
-{
-    let frame = writing::write_links(stations, count, small, links, area);
-    *written = frame.length;
-    number(frame.refusal)
 }
 
 pub fn locate_copy(

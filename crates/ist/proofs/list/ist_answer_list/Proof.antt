@@ -14,9 +14,9 @@ use Rattle.listed.specs.ListServices.{ListAnswered}
 use Rattle.codes.specs.Exports.{Replied}
 use Rattle.ist.proofs.Lent.{Small, Load}
 use Rattle.ist.proofs.WriteEntry.{Says, Core, meets}
-use Rattle.ist_lists.proofs.answer_copy.Symbol as core-def
-use Rattle.ist_lists.proofs.answer_copy.Symbol.{name as #ist-lists·answer-copy}
-use Rattle.ist_lists.proofs.answer_copy.Met as core-thm
+use Rattle.ist_writers.proofs.answer_copy.Symbol as core-def
+use Rattle.ist_writers.proofs.answer_copy.Symbol.{name as #ist-writers·answer-copy}
+use Rattle.ist_writers.proofs.answer_copy.Met as core-thm
 use Rattle.ist.proofs.list.ist_answer_list.Key.{name as #ist·list·ist-answer-list}
 use Rattle.ist.proofs.list.ist_answer_list as f
 use Rattle.ist.proofs.list.ist_answer_list.Statement as stated
@@ -30,7 +30,7 @@ unfolding code.routine tablesOf
 ist-answer-list-spec 𝓤 H 𝓜 𝓖 𝓡 =
     entered 𝓤 H (tripleOf 𝓤 H (𝓖 .A) f.signature (f.spec 𝓤 H (𝓖 .A) (𝓜 .mem) (𝓡 .run)))
     (tables 𝓤 H 𝓜 𝓡 code.env .C) (tables 𝓤 H 𝓜 𝓡 code.env .Λ) #ist·list·ist-answer-list code.function (code.unfolded 𝓤 H 𝓜 𝓡)
-    (meets 𝓤 H (𝓖 .A) (givenOf 𝓤 H 𝓜 𝓖) Φ (𝓜 .mem) (𝓡 .run) (tablesOf 𝓤 H 𝓜 (tables 𝓤 H 𝓜 𝓡 code.env)) #ist-lists·answer-copy
+    (meets 𝓤 H (𝓖 .A) (givenOf 𝓤 H 𝓜 𝓖) Φ (𝓜 .mem) (𝓡 .run) (tablesOf 𝓤 H 𝓜 (tables 𝓤 H 𝓜 𝓡 code.env)) #ist-writers·answer-copy
     (cited 𝓤 H (Small 𝓤 H (𝓖 .A) (𝓜 .mem) (𝓡 .run)) 𝓜 𝓡 code.env #records·all-small small-def.routine code.calls-records·all-small (small-thm.met 𝓤 H 𝓜 𝓖 𝓡))
     (cited 𝓤 H (Load 𝓤 H (𝓖 .A) (𝓜 .mem) (𝓡 .run)) 𝓜 𝓡 code.env #records·load load-def.routine code.calls-records·load (load-thm.met 𝓤 H 𝓜 𝓖 𝓡))
-    (cited 𝓤 H (Core 𝓤 H (𝓖 .A) Φ) 𝓜 𝓡 code.env #ist-lists·answer-copy core-def.routine code.calls-ist-lists·answer-copy (core-thm.met 𝓤 H 𝓜 𝓖 𝓡)))
+    (cited 𝓤 H (Core 𝓤 H (𝓖 .A) Φ) 𝓜 𝓡 code.env #ist-writers·answer-copy core-def.routine code.calls-ist-writers·answer-copy (core-thm.met 𝓤 H 𝓜 𝓖 𝓡)))

@@ -1,10 +1,10 @@
--- `ist_lists::write_copy` meets its contract: the reply's number and length. Assumes nothing.
+-- `ist_writers::write_copy` meets its contract: the reply's number and length. Assumes nothing.
 use mathlib.Core.Path.{refl}
 use Rattle.listed.specs.LentLaws.{lent-as, lent-written}
 use Rattle.codes.specs.ExportLaws.{number-told, list-written-most}
 use borrow.Author.Needs.{needs}
-use Rattle.ist_lists.proofs.write_copy.Statement.{statement}
-use Rattle.ist_lists.proofs.write_copy.Tie as tie
+use Rattle.ist_writers.proofs.write_copy.Statement.{statement}
+use Rattle.ist_writers.proofs.write_copy.Tie as tie
 
 write-links-requires : tie.Need-write-links-requires
 write-links-requires c κs = search needs

@@ -1,10 +1,10 @@
--- `ist_lists::answer_copy` meets its contract: the reply's number and length. Assumes nothing.
+-- `ist_writers::answer_copy` meets its contract: the reply's number and length. Assumes nothing.
 use mathlib.Core.Path.{refl}
 use Rattle.listed.specs.LentLaws.{lent-as, lent-answered}
 use Rattle.codes.specs.ExportLaws.{number-told, list-answered-most}
 use borrow.Author.Needs.{needs}
-use Rattle.ist_lists.proofs.answer_copy.Statement.{statement}
-use Rattle.ist_lists.proofs.answer_copy.Tie as tie
+use Rattle.ist_writers.proofs.answer_copy.Statement.{statement}
+use Rattle.ist_writers.proofs.answer_copy.Tie as tie
 
 answer-links-requires : tie.Need-answer-links-requires
 answer-links-requires c κs = search needs
