@@ -393,6 +393,8 @@ def show_failures(output, facts):
 
 
 def main():
+    if not shutil.which("rt"):
+        sys.exit("tests/model.py needs rt on PATH")
     probe = Probe(2)
     document_rows(probe)
     limit_jobs(probe)

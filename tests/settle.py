@@ -298,6 +298,8 @@ def runs(rng, wanted):
 
 
 def main():
+    if not os.path.exists(PROGRAM):
+        sys.exit("tests/settle.py needs target/bin/settle: rt check settle builds it")
     wanted = int(sys.argv[1]) if len(sys.argv) > 1 else 3000
     rng = random.Random(int(sys.argv[2]) if len(sys.argv) > 2 else 1)
     kinds, numbers, kept, most = Counter(), Counter(), 0, 0
