@@ -15,7 +15,7 @@ use Rattle.loops.specs.Below.{allBelow}
 use Rattle.loops.specs.TestLaws.{truth, all-same}
 use Rattle.loops.specs.GatherLaws.{getD-tabulate}
 use Rattle.records.specs.declared.Link.{Link}
-use Rattle.records.specs.Records.{zeroLink, firstLinks, columnPut, smallLink, allSmall}
+use Rattle.records.specs.Records.{zeroLink, columnPut, smallLink, allSmall, listCopy}
 use Rattle.records.specs.RecordsLaws.{firsts-take, filled-length, filled-at, filled-past, all-small-whole}
 use Rattle.frame.specs.Job.{JobLink, Job, noLink, link, jobFrame}
 use Rattle.limits.specs.Limits.{maxNodes, maxEdges, maxNumber}
@@ -109,7 +109,7 @@ module _ (nodes : ℕ) (ys : List Link) where
   pub lent : (Refused : ℕ → Type 0) (Said : Job → Type 0)
       → (small (listJob nodes ys) ≡ false → Refused 1 → Said (listJob nodes ys))
       → (small (listJob nodes ys) ≡ true → refusal (jobFrame (listJob nodes ys)) ≡ 2 → Refused 2 → Said (listJob nodes ys))
-      → Given nodes (length ys) (allSmall ys) (firstLinks 256 ys) Refused Said → Said (listJob nodes ys)
+      → Given nodes (listCopy ys) Refused Said → Said (listJob nodes ys)
   lent Refused Said large long g =
       ⊎-elim
       (λ (y : small (listJob nodes ys) ≡ true).

@@ -8,6 +8,7 @@ use mathlib.Core.List.{List, map}
 use lib.Dec.{leb}
 use lib.ListN.{take}
 use Rattle.records.specs.declared.Link.{Link}
+use Rattle.records.specs.declared.ListCopy.{ListCopy}
 use Rattle.frame.specs.Job.{JobLink, Job, jobFrame}
 use Rattle.limits.specs.Limits.{maxEdges, maxNumber}
 use Rattle.frame.specs.Arrays.{Arrays}
@@ -32,12 +33,15 @@ countRefusal nodes count word =
     ask (leb count maxEdges) 2 λ _.
     0
 
+abbrev pub givenRefusal : ℕ → ListCopy → ℕ
+givenRefusal nodes list = countRefusal nodes (list .count) (list .small)
+
 -- What is said of a list that is given as its length, the word that its numbers are small and a copy of its first links:
 -- that it is refused by the above; else what is said of the job of the first `count` links of the copy. Links behind these do
 -- not count. So much is said of whatever is given, be it of a list or not.
-pub record Given (nodes count : ℕ) (word : Bool) (links : List Link) (Refused : ℕ → Type 0) (Said : Job → Type 0) : Type 0 where
-  pub refused : countRefusal nodes count word ≢ 0 → Refused (countRefusal nodes count word)
-  pub said : countRefusal nodes count word ≡ 0 → Said (listJob nodes (take count links))
+pub record Given (nodes : ℕ) (list : ListCopy) (Refused : ℕ → Type 0) (Said : Job → Type 0) : Type 0 where
+  pub refused : givenRefusal nodes list ≢ 0 → Refused (givenRefusal nodes list)
+  pub said : givenRefusal nodes list ≡ 0 → Said (listJob nodes (take (list .count) (list .links)))
 
 -- A list whose numbers are small is accepted as its frame is; any other is refused by question 1.
 pub record ListAccepted (j : Job) (h : Header) (a : Arrays) : Type 0 where

@@ -15,7 +15,7 @@ use job::refused;
 use limits::MOST_COUNT;
 use limits::MOST_LENGTH;
 use limits::MOST_NUMBER;
-use records::Link;
+use records::ListCopy;
 
 // Question 6 of a job in arrays that has passed the others: 6, or 0, and then the tree ranks and paths are found.
 fn tree_refusal(
@@ -118,13 +118,10 @@ fn count_refusal(nodes: u32, count: usize, small: bool) -> u32
     0
 }
 
-// The first refusal of questions 1 to 6 for a list of `count` records, or the counts, with the job in the arrays. `links` is
-// a copy of the first 256 of the list; whether the numbers of all are small, `small` says.
+// The first refusal of questions 1 to 6 for a list of records, or the counts, with the job in the arrays.
 pub fn accept_links(
     nodes: u32,
-    count: usize,
-    small: bool,
-    links: [Link; 256],
+    list: ListCopy,
     end1: &mut [u32; 256],
     end2: &mut [u32; 256],
     cost: &mut [u32; 256],
@@ -133,14 +130,16 @@ pub fn accept_links(
     mask: &mut [u64; 64],
 ) -> Header
     requires { ⌜ Empty (arrays (now end1) (now end2) (now cost) (now mark) (now ts) (now mask)) ⌝ }
-    ensures list { λ r. ⌜ Given nodes count small links (λ n. r ≡ refusedHeader n)
+    ensures list { λ r. ⌜ Given nodes list (λ n. r ≡ refusedHeader n)
         (λ j. ListAccepted j r (arrays (now (end1 .exit)) (now (end2 .exit)) (now (cost .exit)) (now (mark .exit)) (now (ts .exit)) (now (mask .exit)))) ⌝ }
     ensures job { λ r. ⌜ SomeHeld r (arrays (now (end1 .exit)) (now (end2 .exit)) (now (cost .exit)) (now (mark .exit)) (now (ts .exit)) (now (mask .exit))) ⌝ }
 {
-    let early = count_refusal(nodes, count, small);
+    let count = list.count;
+    let early = count_refusal(nodes, count, list.small);
     if early != 0 {
         return refused(early);
     }
+    let links = list.links;
     records::spread(count, links, end1, end2, cost, mark);
     let refusal = accept_list(nodes, count, end1, end2, cost, mark, ts, mask);
     if refusal != 0 {

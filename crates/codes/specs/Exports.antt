@@ -7,7 +7,8 @@ use mathlib.Core.List.{List}
 use lib.ListN.{length}
 use lib.IntN.{ℤ, pos, negsuc}
 use Rattle.records.specs.declared.Link.{Link}
-use Rattle.records.specs.Records.{firstLinks, allSmall}
+use Rattle.records.specs.declared.ListCopy.{ListCopy}
+use Rattle.records.specs.Records.{listCopy}
 use Rattle.codec.specs.declared.Reply.{Reply}
 use Rattle.copying.specs.declared.JobCopy.{JobCopy}
 use Rattle.copying.specs.declared.AnswerCopy.{AnswerCopy}
@@ -29,9 +30,9 @@ toldVerdict Yes = Yes
 toldVerdict No = No
 toldVerdict (Refused n) = Refused (told n)
 
--- What is said of every list of which n is the length, word the test and links the copy: of the list that was lent.
-abbrev pub Of : ℕ → Bool → List Link → (List Link → Type 0) → Type 0
-Of n word links Φ = (ys : List Link) → n ≡ length ys → word ≡ allSmall ys → links ≡ firstLinks 256 ys → Φ ys
+-- What is said of every list of which this is the copy: of the list that was lent.
+abbrev pub Of : ListCopy → (List Link → Type 0) → Type 0
+Of list Φ = (ys : List Link) → list ≡ listCopy ys → Φ ys
 
 -- The number is that of a verdict which the judge may give.
 pub record Said (Judged : Verdict → Type 0) (r : ℤ) : Type 0 where

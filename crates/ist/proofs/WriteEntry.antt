@@ -1,7 +1,7 @@
 -- The entry that answers a lent list of links, with an area and a length to write: for every `core`, and whatever it says.
 --     f(stations, list, area, written) {
---         let n = list.len(); let small = all_small(list); let links = load(list);
---         core(stations, n, small, links, area, written) }
+--         let copy = copy_list(list);
+--         core(stations, copy, area, written) }
 --     Says             what is said of the station count, the list, the area before, the result, the length and the area after
 --     entry, says      the entry's signature, and its clauses.        core, core-says      those of `core`
 --     function g       the entry's MIR, where `core` has the name g
@@ -46,13 +46,12 @@ use denote.Triple.Walked.{goes-none-slice, goes-gave-slice, goes-gave-ref, Walks
 use denote.Exit.{yes}
 use denote.Triple.Clauses.{Ended, Clauses, closing, Lasts, ensured, lasts}
 use Rattle.records.specs.declared.Link.{Link}
-use Rattle.records.specs.Records.{firstLinks, allSmall}
-use Rattle.records.proofs.Link.Laws as T′
+use Rattle.records.specs.Records.{listCopy}
+use Rattle.records.proofs.ListCopy.Laws as C′
 use Rattle.records.proofs.LinkRows.{R, word, slice, gone}
 use Rattle.codes.specs.Exports.{Of}
-use Rattle.ist.proofs.Lent.{Small, Load, Links, Own, calls-small, calls-load, copy-typed, copy-makes}
-use Rattle.records.proofs.all_small.Symbol.{name as #records·all-small}
-use Rattle.records.proofs.load.Symbol.{name as #records·load}
+use Rattle.ist.proofs.Lent.{Copy, S, Own, calls-copy, copy-typed, copy-makes}
+use Rattle.records.proofs.copy_list.Symbol.{name as #records·copy-list}
 
 abbrev pub Says : Type 1
 Says = ℕ → List Link → List ℕ → i32 .Denot → ℕ → List ℕ → Type 0
@@ -75,11 +74,10 @@ core = record {
       record {
         lifetimes = 2;
         outlives = [];
-        params = plain (λ _. u32) ∷ plain (λ _. usize) ∷ plain (λ _. bool) ∷ plain (λ _. Links) ∷ mutSlice 0 tt
-            (λ _. u8) ∷ mutRef 1 tt (λ _. usize) ∷ [];
+        params = plain (λ _. u32) ∷ plain (λ _. S) ∷ mutSlice 0 tt (λ _. u8) ∷ mutRef 1 tt (λ _. usize) ∷ [];
         result = plain (λ _. i32);
       };
-  kept = (yes, (yes, (yes, (yes, (yes, (yes, tt))))));
+  kept = (yes, (yes, (yes, (yes, tt))));
 }
 
 module _ {M : Type 1} (𝓤 : URA M) (Φ : Says) where
@@ -96,14 +94,13 @@ module _ {M : Type 1} (𝓤 : URA M) (Φ : Says) where
     ghost = Unit {0};
     requires = λ _. emp 𝓤;
     ensures =
-        λ _ r e. fact 𝓤 (Of (a .1 .0) (a .1 .1 .0) (a .1 .1 .1 .0)
-        (λ ys. Φ (a .0) ys (now (a .1 .1 .1 .1 .0)) r (now (e .1 .1 .1 .1 .1 .0)) (now (e .1 .1 .1 .1 .0))));
+        λ _ r e. fact 𝓤 (Of (a .1 .0) (λ ys. Φ (a .0) ys (now (a .1 .1 .0)) r (now (e .1 .1 .1 .0)) (now (e .1 .1 .0))));
   }
 
 abbrev bytes : Ty
 bytes = tyRef erased mut (tyInt w8)
 
--- the locals: the result, the four parameters, n, small, links, and what is lent on
+-- the locals: the result, the four parameters, the copy, and what is lent on
 abbrev pub function : Name → Fn
 function g = record {
   lifetimes = 3;
@@ -112,16 +109,12 @@ function g = record {
   locals =
       local (tyInt w32) valueLocal ∷ local (tyInt w32) valueLocal ∷ local slice valueLocal ∷ local
       (sliceTy (tyRef (named 1) mut (tyInt w8))) valueLocal ∷ local (tyRef (named 2) mut word) valueLocal
-      ∷ local word valueLocal ∷ local tyBool valueLocal ∷ local (tyArray T′.mir 256) valueLocal ∷ local bytes valueLocal ∷ local
-      (sliceTy bytes) valueLocal ∷ local (tyRef erased mut word) valueLocal ∷ [];
-  body = seq (assign (place 5 []) (rvOpd (copy (place 2 (field 1 ∷ [])))))
-      (seq (call #records·all-small (copy (place 2 []) ∷ []) (place 6 []))
-      (seq (call #records·load (copy (place 2 []) ∷ []) (place 7 []))
-      (seq (assign (place 8 []) (addrOf (place 3 (field 0 ∷ deref (tyInt w8) ∷ []))))
-      (seq (assign (place 9 []) (aggregate (copy (place 8 []) ∷ copy (place 3 (field 1 ∷ [])) ∷ [])))
-      (seq (assign (place 10 []) (addrOf (place 4 (deref word ∷ []))))
-      (seq (call g (copy (place 1 []) ∷ copy (place 5 []) ∷ copy (place 6 []) ∷ copy (place 7 []) ∷ copy (place 9 []) ∷ copy (place 10 []) ∷ []) (place 0 []))
-      return))))));
+      ∷ local C′.mir valueLocal ∷ local bytes valueLocal ∷ local (sliceTy bytes) valueLocal ∷ local (tyRef erased mut word) valueLocal ∷ [];
+  body = seq (call #records·copy-list (copy (place 2 []) ∷ []) (place 5 []))
+      (seq (assign (place 6 []) (addrOf (place 3 (field 0 ∷ deref (tyInt w8) ∷ []))))
+      (seq (assign (place 7 []) (aggregate (copy (place 6 []) ∷ copy (place 3 (field 1 ∷ [])) ∷ [])))
+      (seq (assign (place 8 []) (addrOf (place 4 (deref word ∷ []))))
+      (seq (call g (copy (place 1 []) ∷ copy (place 5 []) ∷ copy (place 7 []) ∷ copy (place 8 []) ∷ []) (place 0 [])) return))));
 }
 
 abbrev stayed : Stays (entry .signature .params) (entry .kept)
@@ -159,33 +152,17 @@ module _ {M : Type 1} (𝓤 : URA M) (H : Heap 𝓤) (A : Atoms 𝓤) (W : Given
   abbrev Lent : Fml
   Lent = fsep (MutSlice (named 1) κ₁ u8 .own x (slice-vals x)) (fsep (MutRef (named 2) κ₂ usize .own w (ptr-vals w)) ftrue)
 
-  -- the call of `core`, at the results u and t of the two calls before
-  module _ (u t : Val) where
+  -- the call of `core`, at the copy u
+  module _ (u : Val) where
     abbrev given-core : Args (core .signature) (κ₁, (κ₂, tt))
-    given-core = (n, (length (now s), (allSmall (now s), (firstLinks 256 (now s), (x, (w, tt))))))
+    given-core = (n, (listCopy (now s), (x, (w, tt))))
 
     abbrev to : Core 𝓤 H A Φ .Ghost
-    to = (
-      (
-        (κ₁, (κ₂, tt)),
-        (q₁, (q₂, tt)),
-        tt,
-        given-core,
-        (vint w32 n ∷ [], (vint w64 (length (now s)) ∷ [], (u ∷ [], (t ∷ [], (slice-vals x, (ptr-vals w, tt)))))),
-      ),
-      tt,
-    )
+    to = (((κ₁, (κ₂, tt)), (q₁, (q₂, tt)), tt, given-core, (vint w32 n ∷ [], (u ∷ [], (slice-vals x, (ptr-vals w, tt))))), tt)
 
-    goes :
-        n < 2 ^ 32 →
-        length (now s) < 2 ^ 64 →
-        Is bool (allSmall (now s)) (u ∷ []) →
-        Is Links (firstLinks 256 (now s)) (t ∷ []) →
-        ent 𝓤 (⋆ 𝓤 H A (Toks ∷ ‵ Lent ∷ [])) (Core 𝓤 H A Φ .pre to)
-    goes gn gs is-small is-copy =
-        qed W (Toks ∷ ‵ Lent ∷ []) ∵ move ! (1 ∷ []) $ owned ! Links (Is Links) (copy-makes 𝓤 H A W) (firstLinks 256 (now s)) _ is-copy $ fjoin ! $
-        owned ! bool (Is bool) (bool-makes 𝓤 H A W) (allSmall (now s)) _ is-small $ fjoin ! $ owned ! usize (Is usize) (uint-makes 𝓤 H A W w64)
-        (length (now s)) _ (refl, gs) $ fjoin ! $
+    goes : n < 2 ^ 32 → Is S (listCopy (now s)) (u ∷ []) → ent 𝓤 (⋆ 𝓤 H A (Toks ∷ ‵ Lent ∷ [])) (Core 𝓤 H A Φ .pre to)
+    goes gn is =
+        qed W (Toks ∷ ‵ Lent ∷ []) ∵ move ! (1 ∷ []) $ owned ! S (Is S) (copy-makes 𝓤 H A) (listCopy (now s)) _ is $ fjoin ! $
         owned ! u32 (Is u32) (uint-makes 𝓤 H A W w32) n _ (refl, gn) $ fjoin ! $ move ! (1 ∷ 0 ∷ []) $ join ! $ nothing ! $ move ! (1 ∷ 0 ∷ []) $ done !
 
   exits : (r : i32 .Denot) (z : Val) (zs : List ℕ) (m : ℕ) → n < 2 ^ 32 → length zs ≡ length (now x) → Φ n (now s) (now x) r m zs
@@ -197,8 +174,7 @@ module _ {M : Type 1} (𝓤 : URA M) (H : Heap 𝓤) (A : Atoms 𝓤) (W : Given
       join ! $ frame ! $ nothing ! $ move ! (3 ∷ 0 ∷ []) $ fjoin ! $ move ! (2 ∷ 0 ∷ []) $ fjoin ! $ move ! (1 ∷ 0 ∷ []) $ fjoin ! $
       owned ! u32 (Is u32) (uint-makes 𝓤 H A W w32) n _ (refl, gn) $ fjoin ! $ done !
 
-  module _ (𝓣 : Tables 𝓤 H) (g : Name) (known-small : Triple 𝓤 (𝓣 .C #records·all-small) (Small 𝓤 H A mem run))
-      (known-load : Triple 𝓤 (𝓣 .C #records·load) (Load 𝓤 H A mem run)) (known : Triple 𝓤 (𝓣 .C g) (Core 𝓤 H A Φ)) where
+  module _ (𝓣 : Tables 𝓤 H) (g : Name) (copied : Triple 𝓤 (𝓣 .C #records·copy-list) (Copy 𝓤 H A mem run)) (known : Triple 𝓤 (𝓣 .C g) (Core 𝓤 H A Φ)) where
     walk :
         n < 2 ^ 32 →
         Is (ShrSlice (named 0) κ R) s (slice-vals s) →
@@ -209,61 +185,54 @@ module _ {M : Type 1} (𝓤 : URA M) (H : Heap 𝓤) (A : Atoms 𝓤) (W : Given
     walk gn gs gx =
         qed W ((‵ (flft κ q) ⊛ Toks) ∷ ‵ (owns (u32 ∷ ShrSlice (named 0) κ R ∷ MutSlice (named 1) κ₁ u8 ∷ MutRef (named 2) κ₂ usize ∷ []) a vals) ∷ []) ∵ enter
         ! (𝓣 .C) (𝓣 .Λ) (function g) _ _ $
-        alloc1 ! (λ l₀. alloc1 ! (λ l₁. alloc1 !
-        (λ l₂. alloc1 ! (λ l₃. alloc1 ! (λ l₄. alloc1 !
-        (λ l₅. alloc1 ! (λ l₆. alloc1 ! (λ l₇. alloc1 ! (λ l₈. alloc1 ! (λ l₉. alloc1 ! (λ k₀. alloc0 ! $ params1 ! $
-        pass1 ! (init ! 18 refl (tt, record { fits = gn })) $ pass1 ! (init ! 16 refl (shr-slice-lawful 𝓤 H A W (named 0) κ R .typed s _ gs .0)) $
-        pass1 ! (init ! 14 refl (mut-slice-lawful 𝓤 H A W (named 1) κ₁ u8 .typed x _ gx .0)) $ pass1 ! (init ! 12 refl (tt, tt)) $ pass0 ! $
-        assigns ! (of-opd ! (load ! (from ! (fld ! refl (stop !))) (look-in ! 16 (sub ! 1 refl (whole !))))) (from ! (stop !))
-        (init ! 10 refl (tt, record { fits = gs .0 .1 .0 })) $
-        -- [the list's token; what it owns; what is passed on; its tokens; _10; …]
-        move ! (22 ∷ []) $ split ! $ move ! (24 ∷ []) $ fsplit ! $ drop ! $ fsplit ! $ move ! (2 ∷ 0 ∷ 1 ∷ 3 ∷ []) $
-        calls-small ! mem run s (fmOf 𝓤 H (W .laws) 𝓣) known-small (and-then ! (load ! (from ! (stop !)) (look ! 20 refl)) (no-more !)) (λ u is-small.
-        land ! (from ! (stop !)) (init ! 12 refl (bool-lawful 𝓤 H A W .typed _ _ is-small .0)) $
-        calls-load ! mem run s (fmOf 𝓤 H (W .laws) 𝓣) known-load (and-then ! (load ! (from ! (stop !)) (look ! 20 refl)) (no-more !)) (λ t is-copy.
-        land ! (from ! (stop !)) (init ! 10 refl (copy-typed 𝓤 H A W (firstLinks 256 (now s)) t is-copy)) $
-        assigns ! (addr ! (from ! (fld ! refl (hop ! (look-in ! 18 (sub ! 0 refl (whole !))) (stop !))))) (from ! (stop !)) (init ! 8 refl (tt, tt)) $
+        alloc1 ! (λ l₀. alloc1 ! (λ l₁. alloc1 ! (λ l₂. alloc1 ! (λ l₃. alloc1 ! (λ l₄. alloc1 ! (λ l₅. alloc1 ! (λ l₆. alloc1 ! (λ l₇. alloc1 ! (λ l₈.
+        alloc0 ! $ params1 ! $
+        pass1 ! (init ! 14 refl (tt, record { fits = gn })) $ pass1 ! (init ! 12 refl (shr-slice-lawful 𝓤 H A W (named 0) κ R .typed s _ gs .0)) $
+        pass1 ! (init ! 10 refl (mut-slice-lawful 𝓤 H A W (named 1) κ₁ u8 .typed x _ gx .0)) $ pass1 ! (init ! 8 refl (tt, tt)) $ pass0 ! $
+        -- [the list's token; what it owns; what is passed on; its tokens; _8; …]
+        move ! (18 ∷ []) $ split ! $ move ! (20 ∷ []) $ fsplit ! $ drop ! $ fsplit ! $ move ! (2 ∷ 0 ∷ 1 ∷ 3 ∷ []) $
+        calls-copy ! mem run s (fmOf 𝓤 H (W .laws) 𝓣) copied (and-then ! (load ! (from ! (stop !)) (look ! 16 refl)) (no-more !)) (λ u is.
+        land ! (from ! (stop !)) (init ! 10 refl (copy-typed 𝓤 H A W (listCopy (now s)) u is)) $
+        assigns ! (addr ! (from ! (fld ! refl (hop ! (look-in ! 14 (sub ! 0 refl (whole !))) (stop !))))) (from ! (stop !)) (init ! 8 refl (tt, tt)) $
         assigns ! (agg ! (and-then ! (load ! (from ! (stop !)) (look ! 8 refl))
-        (and-then ! (load ! (from ! (fld ! refl (stop !))) (look-in ! 18 (sub ! 1 refl (whole !)))) (no-more !)))) (from ! (stop !)) (init ! 6 refl (
+        (and-then ! (load ! (from ! (fld ! refl (stop !))) (look-in ! 14 (sub ! 1 refl (whole !)))) (no-more !)))) (from ! (stop !)) (init ! 6 refl (
           tt,
           (tt, (record { fits = gx .0 .1 .0 }, tt)),
         )) $
-        assigns ! (addr ! (from ! (hop ! (look ! 16 refl) (stop !)))) (from ! (stop !)) (init ! 4 refl (tt, tt)) $
-        move ! (3 ∷ 2 ∷ []) $ use2 W (raw (Core 𝓤 H A Φ .pre (to u t))) (goes u t gn (gs .0 .1 .0) is-small is-copy) $
-        -- [what `core` asks; the list's token; what it owns; _10; …]
-        calls-at ! (fmOf 𝓤 H (W .laws) 𝓣) (Core 𝓤 H A Φ) known (to u t)
-        (and-then ! (load ! (from ! (stop !)) (look ! 21 refl))
-        (and-then ! (load ! (from ! (stop !)) (look ! 13 refl))
-        (and-then ! (load ! (from ! (stop !)) (look ! 11 refl))
+        assigns ! (addr ! (from ! (hop ! (look ! 12 refl) (stop !)))) (from ! (stop !)) (init ! 4 refl (tt, tt)) $
+        move ! (3 ∷ 2 ∷ []) $ use2 W (raw (Core 𝓤 H A Φ .pre (to u))) (goes u gn is) $
+        -- [what `core` asks; the list's token; what it owns; _8; …]
+        calls-at ! (fmOf 𝓤 H (W .laws) 𝓣) (Core 𝓤 H A Φ) known (to u)
+        (and-then ! (load ! (from ! (stop !)) (look ! 17 refl))
         (and-then ! (load ! (from ! (stop !)) (look ! 9 refl))
-        (and-then ! (load ! (from ! (stop !)) (look ! 5 refl)) (and-then ! (load ! (from ! (stop !)) (look ! 3 refl)) (no-more !))))))) (λ z.
+        (and-then ! (load ! (from ! (stop !)) (look ! 5 refl)) (and-then ! (load ! (from ! (stop !)) (look ! 3 refl)) (no-more !))))) (λ z.
         use1 W (later (some (λ (r : i32 .Denot). (Toks ⊛ ‵ (i32 .own r (z ∷ []))) ⊛ raw
-        (ensured 𝓤 H A core (says-core 𝓤 Φ) (κ₁, (κ₂, tt)) (given-core u t) tt r)))) (id⊢ 𝓤 _) $ await ! tt $ pick ! (λ r.
+        (ensured 𝓤 H A core (says-core 𝓤 Φ) (κ₁, (κ₂, tt)) (given-core u) tt r)))) (id⊢ 𝓤 _) $ await ! tt $ pick ! (λ r.
         split ! $ move ! (1 ∷ []) $
-        use1 W (some (λ (ws : Lasts core (κ₁, (κ₂, tt)) (given-core u t)). ‵ (lasts core (κ₁, (κ₂, tt)) (given-core u t) ws) ⊛ raw
-        (fact 𝓤 (Of (length (now s)) (allSmall (now s)) (firstLinks 256 (now s))
-        (λ ys. Φ n ys (now x) r (ws .1 .1 .1 .1 .1 .0) (ws .1 .1 .1 .1 .0)))))) (id⊢ 𝓤 _) $ pick ! (λ ws.
-        split ! $ move ! (1 ∷ []) $ heard ! (Of (length (now s)) (allSmall (now s)) (firstLinks 256 (now s))
-        (λ ys. Φ n ys (now x) r (ws .1 .1 .1 .1 .1 .0) (ws .1 .1 .1 .1 .0))) (λ e.
-        fsplit ! $ drop ! $ fsplit ! $ drop ! $ fsplit ! $ drop ! $ fsplit ! $ drop ! $ fsplit ! $ fsplit ! $ move ! (1 ∷ []) $ feqL !
+        use1 W (some (λ (ws : Lasts core (κ₁, (κ₂, tt)) (given-core u)). ‵ (lasts core (κ₁, (κ₂, tt)) (given-core u) ws) ⊛ raw
+        (fact 𝓤 (Of (listCopy (now s))
+        (λ ys. Φ n ys (now x) r (ws .1 .1 .1 .0) (ws .1 .1 .0)))))) (id⊢ 𝓤 _) $ pick ! (λ ws.
+        split ! $ move ! (1 ∷ []) $ heard ! (Of (listCopy (now s))
+        (λ ys. Φ n ys (now x) r (ws .1 .1 .1 .0) (ws .1 .1 .0))) (λ e.
+        fsplit ! $ drop ! $ fsplit ! $ drop ! $ fsplit ! $ fsplit ! $ move ! (1 ∷ []) $ feqL !
         (λ l. move ! (1 ∷ []) $ fsplit ! $
         move ! (3 ∷ []) $ split ! $ move ! (1 ∷ []) $ peeks ! i32 (Is i32) (shows 𝓤 H A i32) r (z ∷ []) (λ told.
-        -- [the result; the tokens; the last length; true; the last area; the list's token; what it owns; _10; …]
-        land ! (from ! (stop !)) (init ! 27 refl (sint-lawful 𝓤 H A W w32 .typed r _ told .0)) $ returns ! (look ! 27 refl) $
-        gone ! 27 refl refl $ gone ! 25 refl refl $ gone ! 23 refl refl $ gone ! 21 refl refl $ gone ! 19 refl refl $ gone ! 17 refl refl $ gone ! 15 refl refl
-        $ gone ! 13 refl refl $ gone ! 11 refl refl $ gone ! 9 refl refl $ gone ! 7 refl refl $ free0 ! $
-        keep ! (5 ∷ 1 ∷ 6 ∷ 4 ∷ 2 ∷ 0 ∷ []) $ by ! (exits r z (ws .1 .1 .1 .1 .0) (ws .1 .1 .1 .1 .1 .0) gn l (e (now s) refl refl refl)))))))))))))))))))))
+        -- [the result; the tokens; the last length; true; the last area; the list's token; what it owns; _8; …]
+        land ! (from ! (stop !)) (init ! 23 refl (sint-lawful 𝓤 H A W w32 .typed r _ told .0)) $ returns ! (look ! 23 refl) $
+        gone ! 23 refl refl $ gone ! 21 refl refl $ gone ! 19 refl refl $ gone ! 17 refl refl $ gone ! 15 refl refl $ gone ! 13 refl refl $
+        gone ! 11 refl refl $ gone ! 9 refl refl $ gone ! 7 refl refl $ free0 ! $
+        keep ! (5 ∷ 1 ∷ 6 ∷ 4 ∷ 2 ∷ 0 ∷ []) $ by ! (exits r z (ws .1 .1 .0) (ws .1 .1 .1 .0) gn l (e (now s) refl))))))))))))))))))
 
 module _ {M : Type 1} (𝓤 : URA M) (H : Heap 𝓤) (A : Atoms 𝓤) (W : Given 𝓤 H A) (Φ : Says) (mem : Memory → SProp 𝓤) (run : Routine → Fun 𝓤) (𝓣 : Tables 𝓤 H)
     (g : Name)
-    (known-small : Triple 𝓤 (𝓣 .C #records·all-small) (Small 𝓤 H A mem run)) (known-load : Triple 𝓤 (𝓣 .C #records·load) (Load 𝓤 H A mem run))
+    (copied : Triple 𝓤 (𝓣 .C #records·copy-list) (Copy 𝓤 H A mem run))
     (known : Triple 𝓤 (𝓣 .C g) (Core 𝓤 H A Φ)) where
   walks : Walks 𝓤 H A entry stayed (WpFn 𝓤 H (𝓣 .C) (𝓣 .Λ) (function g)) (says-entry 𝓤 Φ)
   walks = walked 𝓤 H A entry stayed (says-entry 𝓤 Φ) (WpFn 𝓤 H (𝓣 .C) (𝓣 .Λ) (function g)) (λ κs. (uint-vals w32, (slice-vals, (slice-vals, (ptr-vals, tt)))))
       (λ κs. (uint-tells w32, (shr-slice-tells (named 0) (κs .0) R, (mut-slice-tells (named 1) (κs .1 .0) u8, (mut-tells (named 2) (κs .1 .1 .0) usize, tt)))))
       (λ κs qs bounds a _ are. via 𝓤 _ (fst∗ 𝓤 _ (emp 𝓤))
       (walk 𝓤 H A W Φ mem run (κs .0) (κs .1 .0) (κs .1 .1 .0) (qs .0) (qs .1 .0) (qs .1 .1 .0) (a .0) (a .1 .0) (a .1 .1 .0)
-      (a .1 .1 .1 .0) 𝓣 g known-small known-load known
+      (a .1 .1 .1 .0) 𝓣 g copied known
       (are .0 .1) (are .1 .0) (are .1 .1 .0)))
 
   pub meets : Meets 𝓤 H A (entry .signature) (WpFn 𝓤 H (𝓣 .C) (𝓣 .Λ) (function g)) (closing 𝓤 H A entry (says-entry 𝓤 Φ))

@@ -1,5 +1,5 @@
 // The functions for C over a lent list of link records. The borrow checker does not cover such a list: each function over it
-// is proved by hand, and only hands the list's length, a test and a copy to its function of crate `ist_lists` or `ist_writers`.
+// is proved by hand, and only hands a copy to its function of crate `ist_lists` or `ist_writers`.
 ghost use Rattle.judging.specs.Verdicts.{TreeJudged, AnswerJudged};
 ghost use Rattle.accept.specs.ListJobs.{listJob};
 ghost use Rattle.listed.specs.ListServices.{ListWritten, ListAnswered, ListJudged, ListCostLocated};
@@ -11,10 +11,8 @@ use records::Link;
 pub extern "C" fn ist_judge_list(stations: u32, list: &[Link]) -> i32
     ensures { λ r. ⌜ Said (ListJudged (listJob stations (now (list .entry))) TreeJudged) r ⌝ }
 {
-    let count = list.len();
-    let small = records::all_small(list);
-    let links = records::load(list);
-    ist_lists::judge_copy(stations, count, small, links)
+    let copy = records::copy_list(list);
+    ist_lists::judge_copy(stations, copy)
 }
 
 // Is a frame an answer to a list?
@@ -22,10 +20,8 @@ pub extern "C" fn ist_judge_list(stations: u32, list: &[Link]) -> i32
 pub extern "C" fn ist_judge_answer_list(stations: u32, list: &[Link], answer: &[u8]) -> i32
     ensures { λ r. ⌜ Said (ListJudged (listJob stations (now (list .entry))) (λ s. AnswerJudged s (now (answer .entry)))) r ⌝ }
 {
-    let count = list.len();
-    let small = records::all_small(list);
-    let links = records::load(list);
-    ist_lists::judge_answer_copy(stations, count, small, links, answer)
+    let copy = records::copy_list(list);
+    ist_lists::judge_answer_copy(stations, copy, answer)
 }
 
 // Answers a list into the area.
@@ -39,10 +35,8 @@ pub extern "C" fn ist_answer_list(
     ensures { λ r. ⌜ Replied (λ reply. ListAnswered (listJob stations (now (list .entry))) (now (area .entry)) reply (now (area .exit))) r
         (now (written .exit)) ⌝ }
 {
-    let count = list.len();
-    let small = records::all_small(list);
-    let links = records::load(list);
-    ist_writers::answer_copy(stations, count, small, links, area, written)
+    let copy = records::copy_list(list);
+    ist_writers::answer_copy(stations, copy, area, written)
 }
 
 // Writes the job frame of a list into the area.
@@ -56,10 +50,8 @@ pub extern "C" fn ist_write_job(
     ensures { λ r. ⌜ Replied (λ reply. ListWritten (listJob stations (now (list .entry))) (now (area .entry)) reply (now (area .exit))) r
         (now (written .exit)) ⌝ }
 {
-    let count = list.len();
-    let small = records::all_small(list);
-    let links = records::load(list);
-    ist_writers::write_copy(stations, count, small, links, area, written)
+    let copy = records::copy_list(list);
+    ist_writers::write_copy(stations, copy, area, written)
 }
 
 // Where a link's new cost stands in a frame that is offered as an answer to a list.
@@ -75,8 +67,6 @@ pub extern "C" fn ist_find_cost_list(
     ensures { λ _. ⌜ ListCostLocated (listJob stations (now (list .entry))) (now (answer .entry)) link
         (record { offset = now (offset .exit); size = now (length .exit) }) ⌝ }
 {
-    let count = list.len();
-    let small = records::all_small(list);
-    let links = records::load(list);
-    ist_lists::locate_copy(stations, count, small, links, answer, link, offset, length);
+    let copy = records::copy_list(list);
+    ist_lists::locate_copy(stations, copy, answer, link, offset, length);
 }

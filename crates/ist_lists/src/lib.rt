@@ -6,40 +6,32 @@ ghost use Rattle.listed.specs.ListServices.{ListJudged, ListCostLocated};
 ghost use Rattle.codes.specs.Exports.{Of, Said};
 use codes::code;
 use ids::Edge;
-use records::Link;
+use records::ListCopy;
 
-pub fn judge_copy(stations: u32, count: usize, small: bool, links: [Link; 256]) -> i32
-    ensures { λ r. ⌜ Of count small links (λ ys. Said (ListJudged (listJob stations ys) TreeJudged) r) ⌝ }
+pub fn judge_copy(stations: u32, list: ListCopy) -> i32
+    ensures { λ r. ⌜ Of list (λ ys. Said (ListJudged (listJob stations ys) TreeJudged) r) ⌝ }
 {
-    code(lists::judge_links(stations, count, small, links))
+    code(lists::judge_links(stations, list))
 }
 
-pub fn judge_answer_copy(
-    stations: u32,
-    count: usize,
-    small: bool,
-    links: [Link; 256],
-    answer: &[u8],
-) -> i32
-    ensures { λ r. ⌜ Of count small links (λ ys. Said (ListJudged (listJob stations ys) (λ s. AnswerJudged s (now (answer .entry)))) r) ⌝ }
+pub fn judge_answer_copy(stations: u32, list: ListCopy, answer: &[u8]) -> i32
+    ensures { λ r. ⌜ Of list (λ ys. Said (ListJudged (listJob stations ys) (λ s. AnswerJudged s (now (answer .entry)))) r) ⌝ }
 {
-    code(lists::judge_answer_links(stations, count, small, links, answer))
+    code(lists::judge_answer_links(stations, list, answer))
 }
 
 pub fn locate_copy(
     stations: u32,
-    count: usize,
-    small: bool,
-    links: [Link; 256],
+    list: ListCopy,
     answer: &[u8],
     link: u32,
     offset: &mut usize,
     length: &mut usize,
 )
-    ensures { λ _. ⌜ Of count small links (λ ys. ListCostLocated (listJob stations ys) (now (answer .entry)) link
+    ensures { λ _. ⌜ Of list (λ ys. ListCostLocated (listJob stations ys) (now (answer .entry)) link
         (record { offset = now (offset .exit); size = now (length .exit) })) ⌝ }
 {
-    let cost = lists::locate_cost_links(stations, count, small, links, answer, Edge(link));
+    let cost = lists::locate_cost_links(stations, list, answer, Edge(link));
     *offset = cost.offset;
     *length = cost.length;
 }

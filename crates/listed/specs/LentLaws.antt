@@ -9,7 +9,8 @@ use lib.ListN.{length}
 use Rattle.loops.specs.TestLaws.{clash}
 use Rattle.number.specs.Number.{Bytes}
 use Rattle.records.specs.declared.Link.{Link}
-use Rattle.records.specs.Records.{firstLinks, allSmall}
+use Rattle.records.specs.declared.ListCopy.{ListCopy}
+use Rattle.records.specs.Records.{listCopy}
 use Rattle.frame.specs.Job.{Job, jobNumbers, jobFrame}
 use Rattle.frame.specs.Questions.{jobOf}
 use Rattle.frame.specs.Answers.{answerOf}
@@ -31,20 +32,15 @@ use Rattle.listed.specs.ListServiceLaws.{untouched-written, small-writte
 
 -- What is given of the list ys.
 abbrev pub Lent : ℕ → List Link → (ℕ → Type 0) → (Job → Type 0) → Type 0
-Lent nodes ys = Given nodes (length ys) (allSmall ys) (firstLinks 256 ys)
+Lent nodes ys = Given nodes (listCopy ys)
 
--- What is given is of the list ys, if it is its length, the word on it and its copy.
+-- What is given is of the list ys, if it is its copy.
 pub lent-as :
-    (nodes : ℕ) (ys : List Link) (Early : ℕ → Type 0) (Said : Job → Type 0) {n : ℕ} {word : Bool} {links : List Link} →
-    n ≡ length ys →
-    word ≡ allSmall ys →
-    links ≡ firstLinks 256 ys →
-    Given nodes n word links Early Said →
+    (nodes : ℕ) (ys : List Link) (Early : ℕ → Type 0) (Said : Job → Type 0) {list : ListCopy} →
+    list ≡ listCopy ys →
+    Given nodes list Early Said →
     Lent nodes ys Early Said
-lent-as nodes ys Early Said {n} {word} {links} size test copy g =
-    subst (λ (ls : List Link). Given nodes (length ys) (allSmall ys) ls Early Said) copy
-    (subst (λ (w : Bool). Given nodes (length ys) w links Early Said) test
-    (subst (λ (k : ℕ). Given nodes k word links Early Said) size g))
+lent-as nodes ys Early Said copy g = subst (λ (c : ListCopy). Given nodes c Early Said) copy g
 
 module _ (nodes : ℕ) (ys : List Link) where
   pub lent-judged :

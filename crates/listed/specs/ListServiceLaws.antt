@@ -8,7 +8,7 @@ use mathlib.Core.Bool.{Bool, true, false}
 use mathlib.Core.List.{List}
 use lib.ListN.{length, take}
 use Rattle.loops.specs.TestLaws.{truth, clash}
-use Rattle.records.specs.declared.Link.{Link}
+use Rattle.records.specs.declared.ListCopy.{ListCopy}
 use Rattle.frame.specs.Job.{Job, jobNumbers, jobFrame}
 use Rattle.frame.specs.Questions.{jobOf, refusal}
 use Rattle.frame.specs.Services.{Outcome, Place, nowhere, small, written}
@@ -23,7 +23,7 @@ use Rattle.codec.specs.WritingLaws.{put-refused}
 use Rattle.accept.specs.Accepting.{Asked}
 use Rattle.job.specs.Reading.{refusedHeader}
 use Rattle.accept.specs.AcceptLaws.{accepted-number, accepted-few}
-use Rattle.accept.specs.ListJobs.{listJob, countRefusal, Given, ListAccepted}
+use Rattle.accept.specs.ListJobs.{listJob, givenRefusal, Given, ListAccepted}
 use Rattle.held.specs.HeldLaws.{stored-job}
 use Rattle.accept.specs.ListAcceptLaws.{asked-large}
 use Rattle.frame.specs.Accepted.{numbers-bytes}
@@ -138,25 +138,25 @@ module _ {h : Header} {b : Arrays} (j : Job) (a : ListAccepted j h b) where
 
 -- ---- what was given of a list was accepted or refused
 
-module _ {nodes count : ℕ} {word : Bool} {links : List Link} {h : Header} {b : Arrays}
-    (g : Given nodes count word links (λ n. h ≡ refusedHeader n) (λ j. ListAccepted j h b)) where
+module _ {nodes : ℕ} {list : ListCopy} {h : Header} {b : Arrays}
+    (g : Given nodes list (λ n. h ≡ refusedHeader n) (λ j. ListAccepted j h b)) where
   -- What is said of a refusal is said of one by the word or by the counts.
-  early : (P : ℕ → Type 0) → (h .refusal ≢ 0 → P (h .refusal)) → countRefusal nodes count word ≢ 0 → P (countRefusal nodes count word)
+  early : (P : ℕ → Type 0) → (h .refusal ≢ 0 → P (h .refusal)) → givenRefusal nodes list ≢ 0 → P (givenRefusal nodes list)
   early P refused n =
-      let e : h .refusal ≡ countRefusal nodes count word = ap (λ (h : Header). h .refusal) (g .refused n) in
+      let e : h .refusal ≡ givenRefusal nodes list = ap (λ (h : Header). h .refusal) (g .refused n) in
       subst P e (refused (λ z. n (sym e ∙ z)))
 
   -- Refused or not, there are at most 256 links.
   pub given-few : h .edges ≤ 256
   given-few =
-      elim (ℕ-discrete (countRefusal nodes count word) 0) [
+      elim (ℕ-discrete (givenRefusal nodes list) 0) [
         | yes z ↦
             let a = g .said z in
-            let j = listJob nodes (take count links) in
+            let j = listJob nodes (take (list .count) (list .links)) in
             ⊎-elim
             (λ y. accepted-few (jobFrame j) h (a .asked y .header-is) (numbers-bytes (jobNumbers j)))
             (λ f. omega (arith, ap (λ (h : Header). h .edges) (a .large f)))
-            (truth (small (listJob nodes (take count links))))
+            (truth (small (listJob nodes (take (list .count) (list .links)))))
         | no n ↦ omega (arith, ap (λ (h : Header). h .edges) (g .refused n))
       ]
 
@@ -164,14 +164,14 @@ module _ {nodes count : ℕ} {word : Bool} {links : List Link} {h : Header} {b :
       (Judged : List ℕ → Verdict → Type 0) (r : Verdict) →
       ((s : List ℕ) → Asked s h b → Judged s r) →
       (h .refusal ≢ 0 → r ≡ Refused (h .refusal)) →
-      Given nodes count word links (λ n. r ≡ Refused n) (λ j. ListJudged j Judged r)
+      Given nodes list (λ n. r ≡ Refused n) (λ j. ListJudged j Judged r)
   given-judged Judged r said refused = record { refused = early (λ n. r ≡ Refused n) refused; said = λ z. list-judged _ (g .said z) Judged r said refused }
 
   pub given-answered :
       (area : List ℕ) (r : Reply) (after : List ℕ) →
       ((s : List ℕ) → Asked s h b → Answered s area r after) →
       (h .refusal ≢ 0 → Untouched (h .refusal) area r after) →
-      Given nodes count word links (λ n. Untouched n area r after) (λ j. ListAnswered j area r after)
+      Given nodes list (λ n. Untouched n area r after) (λ j. ListAnswered j area r after)
   given-answered area r after said refused =
       record { refused = early (λ n. Untouched n area r after) refused; said = λ z. list-answered _ (g .said z) area r after said refused }
 
@@ -179,14 +179,14 @@ module _ {nodes count : ℕ} {word : Bool} {links : List Link} {h : Header} {b :
       (f : List ℕ) (e : ℕ) (place : Place) →
       ((s : List ℕ) → Asked s h b → CostLocated s f e place) →
       (h .refusal ≢ 0 → place ≡ nowhere) →
-      Given nodes count word links (λ _. place ≡ nowhere) (λ j. ListCostLocated j f e place)
+      Given nodes list (λ _. place ≡ nowhere) (λ j. ListCostLocated j f e place)
   given-located f e place said refused =
       record { refused = early (λ _. place ≡ nowhere) refused; said = λ z. list-located _ (g .said z) f e place said refused }
 
   pub given-written :
       (area : List ℕ) (r : Reply) (after : List ℕ) →
       outcome r after ≡ written (h .refusal) (jobFrame (jobAt (h .nodes) (h .edges) (b .links))) 0 area →
-      Given nodes count word links (λ n. Untouched n area r after) (λ j. ListWritten j area r after)
+      Given nodes list (λ n. Untouched n area r after) (λ j. ListWritten j area r after)
   given-written area r after e =
       record {
         refused = early (λ n. Untouched n area r after) (λ n. untouched (h .refusal) (jobFrame (jobAt (h .nodes) (h .edges) (b .links))) n e);

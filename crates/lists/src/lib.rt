@@ -15,11 +15,11 @@ use ids::Edge;
 use judging::Verdict;
 use judging::judge_answer_held;
 use judging::judge_held;
-use records::Link;
+use records::ListCopy;
 
 // Is the marked tree of a list of records cheapest?
-pub fn judge_links(nodes: u32, count: usize, small: bool, links: [Link; 256]) -> Verdict
-    ensures { λ r. ⌜ Given nodes count small links (λ n. r ≡ Refused n) (λ j. ListJudged j TreeJudged r) ⌝ }
+pub fn judge_links(nodes: u32, list: ListCopy) -> Verdict
+    ensures { λ r. ⌜ Given nodes list (λ n. r ≡ Refused n) (λ j. ListJudged j TreeJudged r) ⌝ }
 {
     let mut end1 = [0u32; 256];
     let mut end2 = [0u32; 256];
@@ -29,9 +29,7 @@ pub fn judge_links(nodes: u32, count: usize, small: bool, links: [Link; 256]) ->
     let mut mask = [0u64; 64];
     let header = accept_links(
         nodes,
-        count,
-        small,
-        links,
+        list,
         &mut end1,
         &mut end2,
         &mut cost,
@@ -43,14 +41,8 @@ pub fn judge_links(nodes: u32, count: usize, small: bool, links: [Link; 256]) ->
 }
 
 // Does a frame hold an answer to a list of records?
-pub fn judge_answer_links(
-    nodes: u32,
-    count: usize,
-    small: bool,
-    links: [Link; 256],
-    offered: &[u8],
-) -> Verdict
-    ensures { λ r. ⌜ Given nodes count small links (λ n. r ≡ Refused n) (λ j. ListJudged j (λ s. AnswerJudged s (now (offered .entry))) r) ⌝ }
+pub fn judge_answer_links(nodes: u32, list: ListCopy, offered: &[u8]) -> Verdict
+    ensures { λ r. ⌜ Given nodes list (λ n. r ≡ Refused n) (λ j. ListJudged j (λ s. AnswerJudged s (now (offered .entry))) r) ⌝ }
 {
     let mut end1 = [0u32; 256];
     let mut end2 = [0u32; 256];
@@ -60,9 +52,7 @@ pub fn judge_answer_links(
     let mut mask = [0u64; 64];
     let header = accept_links(
         nodes,
-        count,
-        small,
-        links,
+        list,
         &mut end1,
         &mut end2,
         &mut cost,
@@ -75,15 +65,8 @@ pub fn judge_answer_links(
 
 // Where a link's new cost stands in the frame offered as an answer to a list of records; nowhere, of length 0, if the list is
 // refused, has no such link, or the offered frame is not judged yes.
-pub fn locate_cost_links(
-    nodes: u32,
-    count: usize,
-    small: bool,
-    links: [Link; 256],
-    offered: &[u8],
-    edge: Edge,
-) -> Part
-    ensures { λ r. ⌜ Given nodes count small links (λ _. placeOf r ≡ nowhere) (λ j. ListCostLocated j (now (offered .entry)) (edge .0) (placeOf r)) ⌝ }
+pub fn locate_cost_links(nodes: u32, list: ListCopy, offered: &[u8], edge: Edge) -> Part
+    ensures { λ r. ⌜ Given nodes list (λ _. placeOf r ≡ nowhere) (λ j. ListCostLocated j (now (offered .entry)) (edge .0) (placeOf r)) ⌝ }
 {
     let mut end1 = [0u32; 256];
     let mut end2 = [0u32; 256];
@@ -93,9 +76,7 @@ pub fn locate_cost_links(
     let mut mask = [0u64; 64];
     let header = accept_links(
         nodes,
-        count,
-        small,
-        links,
+        list,
         &mut end1,
         &mut end2,
         &mut cost,

@@ -15,8 +15,8 @@ use Rattle.frame.specs.Questions.{jobOf, refusal}
 use Rattle.frame.specs.Form.{first-no}
 use Rattle.frame.specs.Accepted.{accepted, write-read6}
 use Rattle.records.specs.declared.Link.{Link}
-use Rattle.records.specs.Records.{zeroLink, firstLinks, copied}
-use Rattle.records.specs.RecordsLaws.{copied-none, copied-more, copied-all, firsts-length, firsts-at}
+use Rattle.records.specs.Records.{zeroLink, firstLinks}
+use Rattle.records.specs.RecordsLaws.{firsts-none, firsts-more, firsts-all, firsts-length, firsts-at}
 use Rattle.held.specs.Held.{Stored}
 use Rattle.accept.specs.ListJobs.{jobLink}
 use Rattle.reading.specs.JobsRead.{linkOf, gathered, refusedRead, givenOf, jobIn, JobGiven}
@@ -35,10 +35,10 @@ module _ (n : ℕ) (c : Columns) where
   -- The first e links are gathered.
   pub record Gathering (links : List Link) (e : ℕ) : Type 0 where
     pub within : e ≤ n
-    pub is : links ≡ copied n e (gathered n c)
+    pub is : links ≡ firstLinks n (take e (gathered n c))
 
   pub gather-start : Gathering (replicate n zeroLink) 0
-  gather-start = record { within = omega arith; is = sym (copied-none n (gathered n c)) }
+  gather-start = record { within = omega arith; is = sym (firsts-none n (gathered n c)) }
 
   pub gather-turn : (links : List Link) (e : ℕ) → e < n → Gathering links e → Gathering (set links e (linkOf (linkAt c e))) (e + 1)
   gather-turn links e l g =
@@ -46,7 +46,7 @@ module _ (n : ℕ) (c : Columns) where
       let here : getD ys e zeroLink ≡ row e = getD-tabulate row n e zeroLink l in
       record {
         within = omega arith;
-        is = (λ i. set (g .is i) e (sym here i)) ∙ copied-more n e ys l (omega (arith, length-tabulate row n));
+        is = (λ i. set (g .is i) e (sym here i)) ∙ firsts-more n e ys l (omega (arith, length-tabulate row n));
       }
 
   pub gather-end : (links : List Link) (e : ℕ) → n ≤ e → Gathering links e → links ≡ gathered n c
@@ -54,7 +54,7 @@ module _ (n : ℕ) (c : Columns) where
       let ys = gathered n c in
       let size : length ys ≡ n = length-tabulate row n in
       let all : e ≡ min (length ys) n = omega (arith, g .within, size) in
-      g .is ∙ ap (λ (k : ℕ). copied n k ys) all ∙ copied-all n ys ∙ whole n ys size
+      g .is ∙ ap (λ (k : ℕ). firstLinks n (take k ys)) all ∙ firsts-all n n ys (omega arith) ∙ whole n ys size
 
 -- ---- a job's links as records
 

@@ -8,6 +8,7 @@ use lib.Dec.{leb}
 use Rattle.limits.specs.Limits.{maxNumber}
 use Rattle.loops.specs.Below.{allBelow}
 use Rattle.records.specs.declared.Link.{Link}
+use Rattle.records.specs.declared.ListCopy.{ListCopy}
 
 abbrev pub zeroLink : Link
 zeroLink = record { end1 = 0; end2 = 0; cost = 0; mark = 0 }
@@ -15,10 +16,6 @@ zeroLink = record { end1 = 0; end2 = 0; cost = 0; mark = 0 }
 -- The first n links of a list, zeros behind the last.
 unfoldable pub firstLinks : ℕ → List Link → List Link
 firstLinks n ys = take n ys ++ replicate (n - length ys) zeroLink
-
--- An array of n zeros into which the first i links of a list were put.
-unfoldable pub copied : ℕ → ℕ → List Link → List Link
-copied n i ys = take i ys ++ replicate (n - i) zeroLink
 
 -- A list of numbers of which the first i were replaced by one number of each of the first i links.
 unfoldable pub columnPut : (Link → ℕ) → ℕ → List Link → List ℕ → List ℕ
@@ -36,3 +33,7 @@ smallTo n ys = allBelow n λ e. smallLink (getD ys e zeroLink)
 -- whatever it holds, so its links beyond are not looked at.
 abbrev pub allSmall : List Link → Bool
 allSmall ys = smallTo (min (length ys) (maxNumber + 1)) ys
+
+-- What is handed on of a list: its length, whether its numbers are small, and its first 256 links.
+abbrev pub listCopy : List Link → ListCopy
+listCopy ys = record { count = length ys; small = allSmall ys; links = firstLinks 256 ys }

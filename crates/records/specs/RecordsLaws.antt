@@ -12,41 +12,56 @@ use borrow.Author.Tests.{le-leb, lt-leb}
 use Rattle.limits.specs.Limits.{maxNumber}
 use Rattle.loops.specs.Below.{allBelow}
 use Rattle.records.specs.declared.Link.{Link}
-use Rattle.records.specs.Records.{zeroLink, firstLinks, copied, columnPut, smallLink, smallTo, allSmall}
-
--- No link yet, one more, and as many as the list and the array allow.
-pub copied-none : (n : ℕ) (ys : List Link) → copied n 0 ys ≡ replicate n zeroLink
-unfolding copied
-copied-none n ys = ap (λ (k : ℕ). replicate k zeroLink) (sub-zero n)
+use Rattle.records.specs.Records.{zeroLink, firstLinks, columnPut, smallLink, smallTo, allSmall}
 
 one-more : (i : ℕ) → i + 1 ≡ suc i
 one-more i = omega arith
 
-more : (n i : ℕ) (ys : List Link) → i < n → i < length ys → set (copied n i ys) i (getD ys i zeroLink) ≡ copied n (suc i) ys
-unfolding copied
+firsts-nil : (n : ℕ) → firstLinks n [] ≡ replicate n zeroLink
+unfolding firstLinks
+firsts-nil zero = refl
+firsts-nil (suc n) = ap (λ (k : ℕ). replicate k zeroLink) (sub-zero (suc n))
+
+firsts-cons : (n : ℕ) (y : Link) (ys : List Link) → firstLinks (suc n) (y ∷ ys) ≡ y ∷ firstLinks n ys
+unfolding firstLinks
+firsts-cons n y ys = rw (suc-sub-suc n (length ys)) refl
+
+-- The copy of the first i links of a list: of none, of one more, of one more where the copy is full, and of all that are
+-- looked at.
+pub firsts-none : (n : ℕ) (ys : List Link) → firstLinks n (take 0 ys) ≡ replicate n zeroLink
+firsts-none n ys = firsts-nil n
+
+more : (n i : ℕ) (ys : List Link) → i < n → i < length ys
+    → set (firstLinks n (take i ys)) i (getD ys i zeroLink) ≡ firstLinks n (take (suc i) ys)
 more zero i ys l k = absurd (omega arith)
-more (suc n) zero [] l k = absurd (omega arith)
-more (suc n) zero (y ∷ ys) l k = rw (sub-zero (suc n), suc-sub-suc n 0, sub-zero n) refl
-more (suc n) (suc i) [] l k = absurd (omega arith)
+more (suc n) i [] l k = absurd (omega arith)
+more (suc n) zero (y ∷ ys) l k = rw (firsts-nil (suc n), firsts-cons n y [], firsts-nil n) refl
 more (suc n) (suc i) (y ∷ ys) l k =
-    rw (suc-sub-suc n i, suc-sub-suc n (suc i)) (ap {B = List Link} (λ r. y ∷ r) (more n i ys (omega arith) (omega arith)))
+    rw (firsts-cons n y (take i ys), firsts-cons n y (take (suc i) ys)) (ap {B = List Link} (λ r. y ∷ r) (more n i ys (omega arith) (omega arith)))
 
-pub copied-more : (n i : ℕ) (ys : List Link) → i < n → i < length ys → set (copied n i ys) i (getD ys i zeroLink) ≡ copied n (i + 1) ys
-copied-more n i ys l k = more n i ys l k ∙ ap (λ (j : ℕ). copied n j ys) (sym (one-more i))
+pub firsts-more : (n i : ℕ) (ys : List Link) → i < n → i < length ys
+    → set (firstLinks n (take i ys)) i (getD ys i zeroLink) ≡ firstLinks n (take (i + 1) ys)
+firsts-more n i ys l k = more n i ys l k ∙ ap (λ (j : ℕ). firstLinks n (take j ys)) (sym (one-more i))
 
-pub copied-all : (n : ℕ) (ys : List Link) → copied n (min (length ys) n) ys ≡ firstLinks n ys
-unfolding copied firstLinks
-copied-all zero ys = rw (min-zero (length ys), zero-sub (length ys)) refl
-copied-all (suc n) [] = rw (zero-min (suc n)) refl
-copied-all (suc n) (y ∷ ys) =
-    rw (suc-min-suc (length ys) n, suc-sub-suc n (length ys), suc-sub-suc n (min (length ys) n)) (ap {B = List Link} (λ r. y ∷ r) (copied-all n ys))
+full : (n i : ℕ) (ys : List Link) → n ≤ i → firstLinks n (take i ys) ≡ firstLinks n (take (suc i) ys)
+unfolding firstLinks
+full zero i ys h = rw (zero-sub (length (take i ys)), zero-sub (length (take (suc i) ys))) refl
+full (suc n) zero ys h = absurd (omega arith)
+full (suc n) (suc i) [] h = refl
+full (suc n) (suc i) (y ∷ ys) h =
+    rw (firsts-cons n y (take i ys), firsts-cons n y (take (suc i) ys)) (ap {B = List Link} (λ r. y ∷ r) (full n i ys (omega arith)))
 
-pub copied-length : (n i : ℕ) (ys : List Link) → i ≤ n → i ≤ length ys → length (copied n i ys) ≡ n
-unfolding copied
-copied-length n zero ys l k = rw (sub-zero n) (length-replicate n zeroLink)
-copied-length n (suc i) [] l k = absurd (omega arith)
-copied-length zero (suc i) (y ∷ ys) l k = absurd (omega arith)
-copied-length (suc n) (suc i) (y ∷ ys) l k = rw (suc-sub-suc n i) (ap suc (copied-length n i ys (omega arith) (omega arith)))
+pub firsts-full : (n i : ℕ) (ys : List Link) → n ≤ i → firstLinks n (take i ys) ≡ firstLinks n (take (i + 1) ys)
+firsts-full n i ys h = full n i ys h ∙ ap (λ (j : ℕ). firstLinks n (take j ys)) (sym (one-more i))
+
+pub firsts-all : (n m : ℕ) (ys : List Link) → n ≤ m → firstLinks n (take (min (length ys) m) ys) ≡ firstLinks n ys
+unfolding firstLinks
+firsts-all zero m ys h = rw (zero-sub (length (take (min (length ys) m) ys)), zero-sub (length ys)) refl
+firsts-all (suc n) m [] h = rw (zero-min m) refl
+firsts-all (suc n) zero (y ∷ ys) h = absurd (omega arith)
+firsts-all (suc n) (suc m) (y ∷ ys) h =
+    rw (suc-min-suc (length ys) m, firsts-cons n y (take (min (length ys) m) ys), firsts-cons n y ys)
+    (ap {B = List Link} (λ r. y ∷ r) (firsts-all n m ys (omega arith)))
 
 -- The copy has n links: those of the list as far as it goes, then zeros.
 pub firsts-length : (n : ℕ) (ys : List Link) → length (firstLinks n ys) ≡ n

@@ -1,10 +1,10 @@
 // Links as records, lent as a list: the first 256 are copied into an array, and every number is tested. The borrow
-// checker does not cover a function over such a list: `load` and `all_small` are proved by hand, and kept small.
+// checker does not cover a function over such a list: `copy_list` is proved by hand, and kept small.
 ghost use mathlib.Core.Path.{_≡_};
 ghost use Prim.Native.Nat.{min};
 ghost use mathlib.Core.Bool.{_&&_};
 ghost use lib.ListN.{length};
-ghost use Rattle.records.specs.Records.{firstLinks, columnPut, smallLink, allSmall};
+ghost use Rattle.records.specs.Records.{columnPut, smallLink, listCopy};
 use limits::MOST_COUNT;
 use limits::MOST_NUMBER;
 use limits::TOO_LONG;
@@ -53,38 +53,42 @@ fn at_most(n: usize, most: usize) -> usize
     most
 }
 
-// Every number of every link of the list is at most 16,383. A list longer than 16,383 is refused whatever it holds: of it
-// only the first 16,384 links are looked at.
-pub fn all_small(list: &[Link]) -> bool
-    ensures { λ r. ⌜ r ≡ allSmall (now (list .entry)) ⌝ }
-{
-    let n = at_most(list.len(), TOO_LONG);
-    let mut sofar = true;
-    let mut i = 0;
-    while i < n {
-        sofar = still_small(sofar, list[i]);
-        i = i + 1;
-    }
-    sofar
+// What is handed on of a lent list: its length, whether every number is at most 16,383, and its first 256 links, zeros behind
+// the last.
+pub struct ListCopy {
+    pub count: usize,
+    pub small: bool,
+    pub links: [Link; 256],
 }
 
-// The first 256 links of the list, zeros behind the last.
-pub fn load(list: &[Link]) -> [Link; 256]
-    ensures { λ r. ⌜ r ≡ firstLinks 256 (now (list .entry)) ⌝ }
+// A list longer than 16,383 is refused whatever it holds: of it only the first 16,384 links are looked at.
+pub fn copy_list(list: &[Link]) -> ListCopy
+    ensures { λ r. ⌜ r ≡ listCopy (now (list .entry)) ⌝ }
 {
-    let n = at_most(list.len(), MOST_COUNT);
-    let mut links = [Link {
-        end1: 0,
-        end2: 0,
-        cost: 0,
-        mark: 0,
-    }; 256];
+    let count = list.len();
+    let n = at_most(count, TOO_LONG);
+    let mut small = true;
+    let mut copy = ListCopy {
+        count: count,
+        small: true,
+        links: [Link {
+            end1: 0,
+            end2: 0,
+            cost: 0,
+            mark: 0,
+        }; 256],
+    };
     let mut i = 0;
     while i < n {
-        links[i] = list[i];
+        let link = list[i];
+        small = still_small(small, link);
+        if i < MOST_COUNT {
+            copy.links[i] = link;
+        }
         i = i + 1;
     }
-    links
+    copy.small = small;
+    copy
 }
 
 // Each number of the first so many links into an array of its own; the places behind them stay.

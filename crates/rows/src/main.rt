@@ -5,6 +5,7 @@ use ids::Edge;
 use judging::Verdict;
 use leb128::Number;
 use records::Link;
+use records::ListCopy;
 
 fn print_byte(byte: u8) {
     io::write_all(1, b" ");
@@ -161,9 +162,18 @@ fn long_links() -> [Link; 256] {
     links
 }
 
+// The first so many of them, as a list.
+fn long_list(count: usize) -> ListCopy {
+    ListCopy {
+        count: count,
+        small: true,
+        links: long_links(),
+    }
+}
+
 // Writes the longest job into an area, and shows the number and the length.
 fn write_long(name: &[u8], area: &mut [u8]) {
-    let reply = writing::write_links(64, 256, true, long_links(), area);
+    let reply = writing::write_links(64, long_list(256), area);
     print_reply(name, reply.refusal, reply.length);
     io::write_all(1, b"\n");
 }
@@ -387,7 +397,7 @@ fn main() {
     show_contents(b"T1 read as an answer", t1, t1);
     show_verdict(
         b"a list of no link, records behind it",
-        lists::judge_links(64, 0, true, long_links()),
+        lists::judge_links(64, long_list(0)),
     );
     trees();
     longest();

@@ -6,17 +6,11 @@ ghost use Rattle.listed.specs.ListServices.{ListWritten, ListAnswered};
 use accept::accept_links;
 use answering::answer_held;
 use codec::Reply;
-use records::Link;
+use records::ListCopy;
 
 // Writes the job frame of a list of records into the area, or refuses it and writes nothing.
-pub fn write_links(
-    nodes: u32,
-    count: usize,
-    small: bool,
-    links: [Link; 256],
-    area: &mut [u8],
-) -> Reply
-    ensures { λ r. ⌜ Given nodes count small links (λ n. Untouched n (now (area .entry)) r (now (area .exit)))
+pub fn write_links(nodes: u32, list: ListCopy, area: &mut [u8]) -> Reply
+    ensures { λ r. ⌜ Given nodes list (λ n. Untouched n (now (area .entry)) r (now (area .exit)))
         (λ j. ListWritten j (now (area .entry)) r (now (area .exit))) ⌝ }
 {
     let mut end1 = [0u32; 256];
@@ -27,9 +21,7 @@ pub fn write_links(
     let mut mask = [0u64; 64];
     let header = accept_links(
         nodes,
-        count,
-        small,
-        links,
+        list,
         &mut end1,
         &mut end2,
         &mut cost,
@@ -52,14 +44,8 @@ pub fn write_links(
 }
 
 // Writes the answer to a list of records into the area, or refuses it and writes nothing.
-pub fn answer_links(
-    nodes: u32,
-    count: usize,
-    small: bool,
-    links: [Link; 256],
-    area: &mut [u8],
-) -> Reply
-    ensures { λ r. ⌜ Given nodes count small links (λ n. Untouched n (now (area .entry)) r (now (area .exit)))
+pub fn answer_links(nodes: u32, list: ListCopy, area: &mut [u8]) -> Reply
+    ensures { λ r. ⌜ Given nodes list (λ n. Untouched n (now (area .entry)) r (now (area .exit)))
         (λ j. ListAnswered j (now (area .entry)) r (now (area .exit))) ⌝ }
 {
     let mut end1 = [0u32; 256];
@@ -70,9 +56,7 @@ pub fn answer_links(
     let mut mask = [0u64; 64];
     let header = accept_links(
         nodes,
-        count,
-        small,
-        links,
+        list,
         &mut end1,
         &mut end2,
         &mut cost,

@@ -15,10 +15,10 @@ code-requires : tie.Need-code-requires
 code-requires c κs = search needs
 
 returns : tie.Need-returns
-returns c = λ ys n small copy.
+returns c = λ ys copy.
     let a = c .before .before .args in
     let judged = lent-judged (a .stations) ys (λ s. judgeTree (jobOf s)) (λ s. Cheapest (jobOf s)) _
-    (lent-as (a .stations) ys _ _ n small copy (c .before .judge-links .ensures)) in
+    (lent-as (a .stations) ys _ _ copy (c .before .judge-links .ensures)) in
     record {
       verdict = c .before .judge-links .result;
       number = code-told _ _ (list-sayable _ _ _ (λ k. judged-sayable _ _ _ _ k) judged) (c .code .ensures);

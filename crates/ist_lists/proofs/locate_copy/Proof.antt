@@ -8,11 +8,11 @@ locate-cost-links-requires : tie.Need-locate-cost-links-requires
 locate-cost-links-requires c κs = search needs
 
 returns : tie.Need-returns
-returns c = λ ys n small copy.
+returns c = λ ys copy.
     let k = c .before in
     let a = k .before .args in
     lent-located (a .stations) ys (a .answer .now) (λ i. k .shared-slice-known .given i .fits) (a .link) _
-    (lent-as (a .stations) ys _ _ n small copy (c .locate-cost-links .ensures))
+    (lent-as (a .stations) ys _ _ copy (c .locate-cost-links .ensures))
 
 pub locate-copy-spec : {M : Type 1} → statement M
 locate-copy-spec = tie.close (tie.spec locate-cost-links-requires returns)

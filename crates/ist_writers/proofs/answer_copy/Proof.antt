@@ -16,10 +16,10 @@ same-length : tie.Need-same-length
 same-length c = search needs
 
 returns : tie.Need-returns
-returns c = λ ys n small copy.
+returns c = λ ys copy.
     let w = c .before in
     let a = w .before .before .before .before .before .args in
-    let told = lent-answered (a .stations) ys _ _ _ (lent-as (a .stations) ys _ _ n small copy (w .before .before .answer-links .ensures)) in
+    let told = lent-answered (a .stations) ys _ _ _ (lent-as (a .stations) ys _ _ copy (w .before .before .answer-links .ensures)) in
     record {
       reply = w .before .before .answer-links .result;
       number = number-told _ _ (list-answered-most _ _ _ _ told) (c .number .ensures);

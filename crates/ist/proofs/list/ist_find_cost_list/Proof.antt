@@ -40,18 +40,15 @@ use denote.Triple.Walked.{goes-none-slice, goes-gave-ref, Walks, ends-at, walked
 use denote.Exit.{yes}
 use denote.Triple.Clauses.{Lasts, ensured, lasts}
 use Rattle.records.specs.declared.Link.{Link}
-use Rattle.records.specs.Records.{firstLinks, allSmall}
+use Rattle.records.specs.Records.{listCopy}
 use Rattle.records.proofs.LinkRows.{R, gone}
-use Rattle.records.proofs.all_small.Symbol as small-def
-use Rattle.records.proofs.all_small.Symbol.{name as #records·all-small}
-use Rattle.records.proofs.all_small.Met as small-thm
-use Rattle.records.proofs.load.Symbol as load-def
-use Rattle.records.proofs.load.Symbol.{name as #records·load}
-use Rattle.records.proofs.load.Met as load-thm
+use Rattle.records.proofs.copy_list.Symbol as copy-def
+use Rattle.records.proofs.copy_list.Symbol.{name as #records·copy-list}
+use Rattle.records.proofs.copy_list.Met as copy-thm
 use Rattle.accept.specs.ListJobs.{listJob}
 use Rattle.listed.specs.ListServices.{ListCostLocated}
 use Rattle.codes.specs.Exports.{Of}
-use Rattle.ist.proofs.Lent.{Small, Load, Links, Own, calls-small, calls-load, copy-typed, copy-makes}
+use Rattle.ist.proofs.Lent.{Copy, S, Own, calls-copy, copy-typed, copy-makes}
 use Rattle.ist_lists.proofs.locate_copy as core
 use Rattle.ist_lists.proofs.locate_copy.Symbol as core-def
 use Rattle.ist_lists.proofs.locate_copy.Symbol.{name as #ist-lists·locate-copy}
@@ -108,33 +105,25 @@ module _ {M : Type 1} (𝓤 : URA M) (H : Heap 𝓤) (A : Atoms 𝓤) (W : Given
       fsep Answer (fsep (u32 .own k (vint w32 k ∷ []))
       (fsep (MutRef (named 2) κ₂ usize .own w (ptr-vals w)) (fsep (MutRef (named 3) κ₃ usize .own v (ptr-vals v)) ftrue)))
 
-  -- the call of `locate_copy`, at the results u and t of the two calls before
+  -- the call of `locate_copy`, at the copy
   abbrev given-core : Args core.signature (κ₁, (κ₂, (κ₃, tt)))
-  given-core = (n, (length (now s), (allSmall (now s), (firstLinks 256 (now s), (x, (k, (w, (v, tt))))))))
+  given-core = (n, (listCopy (now s), (x, (k, (w, (v, tt))))))
 
-  abbrev to : Val → Val → Core 𝓤 H A mem run .Ghost
-  to u t = (
+  abbrev to : Val → Core 𝓤 H A mem run .Ghost
+  to u = (
     (
       (κ₁, (κ₂, (κ₃, tt))),
       (q₁, (q₂, (q₃, tt))),
       tt,
       given-core,
-      (vint w32 n ∷ [], (vint w64 (length (now s)) ∷ [], (u ∷ [], (t ∷ [], (slice-vals x, (vint w32 k ∷ [], (ptr-vals w, (ptr-vals v, tt)))))))),
+      (vint w32 n ∷ [], (u ∷ [], (slice-vals x, (vint w32 k ∷ [], (ptr-vals w, (ptr-vals v, tt)))))),
     ),
     tt,
   )
 
-  goes :
-      (u t : Val) →
-      n < 2 ^ 32 →
-      length (now s) < 2 ^ 64 →
-      Is bool (allSmall (now s)) (u ∷ []) →
-      Is Links (firstLinks 256 (now s)) (t ∷ []) →
-      ent 𝓤 (⋆ 𝓤 H A (Toks ∷ ‵ Lent ∷ [])) (Core 𝓤 H A mem run .pre (to u t))
-  goes u t gn gs is-small is-copy =
-      qed W (Toks ∷ ‵ Lent ∷ []) ∵ move ! (1 ∷ []) $ owned ! Links (Is Links) (copy-makes 𝓤 H A W) (firstLinks 256 (now s)) _ is-copy $ fjoin ! $
-      owned ! bool (Is bool) (bool-makes 𝓤 H A W) (allSmall (now s)) _ is-small $ fjoin ! $ owned ! usize (Is usize) (uint-makes 𝓤 H A W w64)
-      (length (now s)) _ (refl, gs) $ fjoin ! $
+  goes : (u : Val) → n < 2 ^ 32 → Is S (listCopy (now s)) (u ∷ []) → ent 𝓤 (⋆ 𝓤 H A (Toks ∷ ‵ Lent ∷ [])) (Core 𝓤 H A mem run .pre (to u))
+  goes u gn is =
+      qed W (Toks ∷ ‵ Lent ∷ []) ∵ move ! (1 ∷ []) $ owned ! S (Is S) (copy-makes 𝓤 H A) (listCopy (now s)) _ is $ fjoin ! $
       owned ! u32 (Is u32) (uint-makes 𝓤 H A W w32) n _ (refl, gn) $ fjoin ! $ move ! (1 ∷ 0 ∷ []) $ join ! $ nothing ! $ move ! (1 ∷ 0 ∷ []) $ done !
 
   exits : (o m : ℕ) → n < 2 ^ 32 → k < 2 ^ 32 → Φ n (now s) (now x) k o m
@@ -149,8 +138,7 @@ module _ {M : Type 1} (𝓤 : URA M) (H : Heap 𝓤) (A : Atoms 𝓤) (W : Given
       move ! (2 ∷ 0 ∷ []) $ fjoin ! $ move ! (1 ∷ 0 ∷ []) $ fjoin ! $ owned ! u32 (Is u32) (uint-makes 𝓤 H A W w32) n _ (refl, gn) $ fjoin ! $
       owned ! unit (Is unit) (nothing-makes 𝓤 H A W) tt _ refl $ move ! (1 ∷ 0 ∷ []) $ done !
 
-  module _ (𝓣 : Tables 𝓤 H) (known-small : Triple 𝓤 (𝓣 .C #records·all-small) (Small 𝓤 H A mem run))
-      (known-load : Triple 𝓤 (𝓣 .C #records·load) (Load 𝓤 H A mem run)) (known : Triple 𝓤 (𝓣 .C #ist-lists·locate-copy) (Core 𝓤 H A mem run)) where
+  module _ (𝓣 : Tables 𝓤 H) (copied : Triple 𝓤 (𝓣 .C #records·copy-list) (Copy 𝓤 H A mem run)) (known : Triple 𝓤 (𝓣 .C #ist-lists·locate-copy) (Core 𝓤 H A mem run)) where
     walk :
         n < 2 ^ 32 →
         Is (ShrSlice (named 0) κ R) s (slice-vals s) →
@@ -162,54 +150,47 @@ module _ {M : Type 1} (𝓤 : URA M) (H : Heap 𝓤) (A : Atoms 𝓤) (W : Given
     walk gn gs gx gk =
         qed W ((‵ (flft κ q) ⊛ Toks) ∷ ‵ (owns (u32 ∷ ShrSlice (named 0) κ R ∷ ShrSlice (named 1) κ₁ u8 ∷ u32 ∷ MutRef (named 2) κ₂ usize ∷ MutRef
         (named 3) κ₃ usize ∷ []) a vals) ∷ []) ∵ enter ! (𝓣 .C) (𝓣 .Λ) code.function _ _ $
-        alloc1 ! (λ l₀. alloc1 ! (λ l₁. alloc1 !
-        (λ l₂. alloc1 ! (λ l₃. alloc1 ! (λ l₄. alloc1 !
-        (λ l₅. alloc1 ! (λ l₆. alloc1 ! (λ l₇. alloc1 ! (λ l₈. alloc1 ! (λ l₉. alloc1 ! (λ k₀. alloc1 ! (λ k₁. alloc1 ! (λ k₂. alloc0 ! $ params1 ! $
-        pass1 ! (init ! 22 refl (tt, record { fits = gn })) $ pass1 ! (init ! 20 refl (shr-slice-lawful 𝓤 H A W (named 0) κ R .typed s _ gs .0)) $
-        pass1 ! (init ! 18 refl (shr-slice-lawful 𝓤 H A W (named 1) κ₁ u8 .typed x _ gx .0)) $ pass1 ! (init ! 16 refl (tt, record { fits = gk })) $ pass1 !
-        (init ! 14 refl (tt, tt)) $ pass1 ! (init ! 12 refl (tt, tt)) $ pass0 ! $
-        assigns ! (of-opd ! (load ! (from ! (fld ! refl (stop !))) (look-in ! 20 (sub ! 1 refl (whole !))))) (from ! (stop !))
-        (init ! 10 refl (tt, record { fits = gs .0 .1 .0 })) $
-        move ! (26 ∷ []) $ split ! $ move ! (28 ∷ []) $ fsplit ! $ drop ! $ fsplit ! $ move ! (1 ∷ []) $ fsplit ! $
-        use1 W (‵ Answer ⊛ ‵ Answer) (shr-slice-copy 𝓤 H A W (named 1) κ₁ u8 .twice x (slice-vals x)) $ split ! $ move ! (1 ∷ 2 ∷ []) $ fjoin ! $ move !
-        (3 ∷ 2 ∷ 0 ∷ 4 ∷ 1 ∷ []) $
-        -- [the list's token; what it owns; what is passed on; its tokens; what the answer owns; _12; …]
-        calls-small ! mem run s (fmOf 𝓤 H (W .laws) 𝓣) known-small (and-then ! (load ! (from ! (stop !)) (look ! 25 refl)) (no-more !)) (λ u is-small.
-        land ! (from ! (stop !)) (init ! 13 refl (bool-lawful 𝓤 H A W .typed _ _ is-small .0)) $
-        calls-load ! mem run s (fmOf 𝓤 H (W .laws) 𝓣) known-load (and-then ! (load ! (from ! (stop !)) (look ! 25 refl)) (no-more !)) (λ t is-copy.
-        land ! (from ! (stop !)) (init ! 11 refl (copy-typed 𝓤 H A W (firstLinks 256 (now s)) t is-copy)) $
-        assigns ! (addr ! (from ! (hop ! (look ! 19 refl) (stop !)))) (from ! (stop !)) (init ! 7 refl (tt, tt)) $
-        assigns ! (addr ! (from ! (hop ! (look ! 17 refl) (stop !)))) (from ! (stop !)) (init ! 5 refl (tt, tt)) $
-        move ! (3 ∷ 2 ∷ []) $ use2 W (raw (Core 𝓤 H A mem run .pre (to u t))) (goes u t gn (gs .0 .1 .0) is-small is-copy) $
-        -- [what `locate_copy` asks; the list's token; what it owns; what the answer owns; _12; …]
-        calls-at ! (fmOf 𝓤 H (W .laws) 𝓣) (Core 𝓤 H A mem run) known (to u t)
-        (and-then ! (load ! (from ! (stop !)) (look ! 26 refl))
-        (and-then ! (load ! (from ! (stop !)) (look ! 14 refl))
-        (and-then ! (load ! (from ! (stop !)) (look ! 12 refl)) (and-then ! (load ! (from ! (stop !)) (look ! 10 refl))
+        alloc1 ! (λ l₀. alloc1 ! (λ l₁. alloc1 ! (λ l₂. alloc1 ! (λ l₃. alloc1 ! (λ l₄. alloc1 ! (λ l₅. alloc1 ! (λ l₆. alloc1 ! (λ l₇. alloc1 ! (λ l₈.
+        alloc1 ! (λ l₉. alloc1 ! (λ k₀. alloc0 ! $ params1 ! $
+        pass1 ! (init ! 18 refl (tt, record { fits = gn })) $ pass1 ! (init ! 16 refl (shr-slice-lawful 𝓤 H A W (named 0) κ R .typed s _ gs .0)) $
+        pass1 ! (init ! 14 refl (shr-slice-lawful 𝓤 H A W (named 1) κ₁ u8 .typed x _ gx .0)) $ pass1 ! (init ! 12 refl (tt, record { fits = gk })) $
+        pass1 ! (init ! 10 refl (tt, tt)) $ pass1 ! (init ! 8 refl (tt, tt)) $ pass0 ! $
+        move ! (22 ∷ []) $ split ! $ move ! (24 ∷ []) $ fsplit ! $ drop ! $ fsplit ! $ move ! (1 ∷ []) $ fsplit ! $
+        use1 W (‵ Answer ⊛ ‵ Answer) (shr-slice-copy 𝓤 H A W (named 1) κ₁ u8 .twice x (slice-vals x)) $ split ! $ move ! (1 ∷ 2 ∷ []) $ fjoin ! $
+        move ! (3 ∷ 2 ∷ 0 ∷ 4 ∷ 1 ∷ []) $
+        -- [the list's token; what it owns; what is passed on; its tokens; what the answer owns; _10; …]
+        calls-copy ! mem run s (fmOf 𝓤 H (W .laws) 𝓣) copied (and-then ! (load ! (from ! (stop !)) (look ! 21 refl)) (no-more !)) (λ u is.
+        land ! (from ! (stop !)) (init ! 11 refl (copy-typed 𝓤 H A W (listCopy (now s)) u is)) $
+        assigns ! (addr ! (from ! (hop ! (look ! 15 refl) (stop !)))) (from ! (stop !)) (init ! 7 refl (tt, tt)) $
+        assigns ! (addr ! (from ! (hop ! (look ! 13 refl) (stop !)))) (from ! (stop !)) (init ! 5 refl (tt, tt)) $
+        move ! (3 ∷ 2 ∷ []) $ use2 W (raw (Core 𝓤 H A mem run .pre (to u))) (goes u gn is) $
+        -- [what `locate_copy` asks; the list's token; what it owns; what the answer owns; _10; …]
+        calls-at ! (fmOf 𝓤 H (W .laws) 𝓣) (Core 𝓤 H A mem run) known (to u)
         (and-then ! (load ! (from ! (stop !)) (look ! 22 refl))
-        (and-then ! (load ! (from ! (stop !)) (look ! 20 refl))
-        (and-then ! (load ! (from ! (stop !)) (look ! 6 refl)) (and-then ! (load ! (from ! (stop !)) (look ! 4 refl)) (no-more !))))))))) (λ z.
+        (and-then ! (load ! (from ! (stop !)) (look ! 10 refl))
+        (and-then ! (load ! (from ! (stop !)) (look ! 18 refl))
+        (and-then ! (load ! (from ! (stop !)) (look ! 16 refl))
+        (and-then ! (load ! (from ! (stop !)) (look ! 6 refl)) (and-then ! (load ! (from ! (stop !)) (look ! 4 refl)) (no-more !))))))) (λ z.
         use1 W (later (some (λ (r : unit .Denot). (Toks ⊛ ‵ (unit .own r (z ∷ []))) ⊛ raw
         (ensured 𝓤 H A core.ended (core.clauses 𝓤 H A mem run) (κ₁, (κ₂, (κ₃, tt))) given-core tt r)))) (id⊢ 𝓤 _) $ await ! tt $ pick ! (λ r.
         split ! $ move ! (1 ∷ []) $
         use1 W (some (λ (ws : Lasts core.ended (κ₁, (κ₂, (κ₃, tt))) given-core). ‵ (lasts core.ended (κ₁, (κ₂, (κ₃, tt))) given-core ws) ⊛ raw
-        (fact 𝓤 (Of (length (now s)) (allSmall (now s)) (firstLinks 256 (now s))
-        (λ ys. Φ n ys (now x) k (ws .1 .1 .1 .1 .1 .1 .0) (ws .1 .1 .1 .1 .1 .1 .1 .0)))))) (id⊢ 𝓤 _) $ pick ! (λ ws.
-        split ! $ move ! (1 ∷ []) $ heard ! (Of (length (now s)) (allSmall (now s)) (firstLinks 256 (now s))
-        (λ ys. Φ n ys (now x) k (ws .1 .1 .1 .1 .1 .1 .0) (ws .1 .1 .1 .1 .1 .1 .1 .0))) (λ e.
-        fsplit ! $ drop ! $ fsplit ! $ drop ! $ fsplit ! $ drop ! $ fsplit ! $ drop ! $ fsplit ! $ drop ! $ fsplit ! $ drop ! $ fsplit ! $ move !
-        (1 ∷ []) $ fsplit ! $
+        (fact 𝓤 (Of (listCopy (now s))
+        (λ ys. Φ n ys (now x) k (ws .1 .1 .1 .1 .0) (ws .1 .1 .1 .1 .1 .0)))))) (id⊢ 𝓤 _) $ pick ! (λ ws.
+        split ! $ move ! (1 ∷ []) $ heard ! (Of (listCopy (now s))
+        (λ ys. Φ n ys (now x) k (ws .1 .1 .1 .1 .0) (ws .1 .1 .1 .1 .1 .0))) (λ e.
+        fsplit ! $ drop ! $ fsplit ! $ drop ! $ fsplit ! $ drop ! $ fsplit ! $ drop ! $ fsplit ! $ move ! (1 ∷ []) $ fsplit ! $
         move ! (3 ∷ []) $ split ! $ move ! (1 ∷ []) $ peeks ! unit (Is unit) (shows 𝓤 H A unit) r (z ∷ []) (λ told.
-        -- [the result; the tokens; the last length; true; the last offset; the list's token; what it owns; what the answer owns; _12; …]
+        -- [the result; the tokens; the last length; true; the last offset; the list's token; what it owns; what the answer owns; _10; …]
         land ! (from ! (stop !)) (init ! 12 refl (nothing-lawful 𝓤 H A W .typed r _ told .0)) $ assigns ! (of-opd ! (unit-lit !)) (from ! (stop !))
-        (init ! 32 refl (tt, tt)) $ returns ! (look ! 32 refl) $
-        gone ! 32 refl refl $ gone ! 30 refl refl $ gone ! 28 refl refl $ gone ! 26 refl refl $ gone ! 24 refl refl $ gone ! 22 refl refl $ gone ! 20 refl refl
-        $ gone ! 18 refl refl $ gone ! 16 refl refl $ gone ! 14 refl refl $ gone ! 12 refl refl $ gone ! 10 refl refl $ gone ! 8 refl refl $ free0 ! $
+        (init ! 28 refl (tt, tt)) $ returns ! (look ! 28 refl) $
+        gone ! 28 refl refl $ gone ! 26 refl refl $ gone ! 24 refl refl $ gone ! 22 refl refl $ gone ! 20 refl refl $ gone ! 18 refl refl $
+        gone ! 16 refl refl $ gone ! 14 refl refl $ gone ! 12 refl refl $ gone ! 10 refl refl $ gone ! 8 refl refl $ free0 ! $
         keep ! (5 ∷ 1 ∷ 6 ∷ 7 ∷ 4 ∷ 2 ∷ []) $ by !
-        (exits (ws .1 .1 .1 .1 .1 .1 .0) (ws .1 .1 .1 .1 .1 .1 .1 .0) gn gk (e (now s) refl refl refl))))))))))))))))))))))
+        (exits (ws .1 .1 .1 .1 .0) (ws .1 .1 .1 .1 .1 .0) gn gk (e (now s) refl)))))))))))))))))))
 
 module _ {M : Type 1} (𝓤 : URA M) (H : Heap 𝓤) (A : Atoms 𝓤) (W : Given 𝓤 H A) (mem : Memory → SProp 𝓤) (run : Routine → Fun 𝓤) (𝓣 : Tables 𝓤 H)
-    (known-small : Triple 𝓤 (𝓣 .C #records·all-small) (Small 𝓤 H A mem run)) (known-load : Triple 𝓤 (𝓣 .C #records·load) (Load 𝓤 H A mem run))
+    (copied : Triple 𝓤 (𝓣 .C #records·copy-list) (Copy 𝓤 H A mem run))
     (known : Triple 𝓤 (𝓣 .C #ist-lists·locate-copy) (Core 𝓤 H A mem run)) where
   walks : Walks 𝓤 H A f.ended stayed (WpFn 𝓤 H (𝓣 .C) (𝓣 .Λ) code.function) (f.clauses 𝓤 H A mem run)
   walks =
@@ -228,7 +209,7 @@ module _ {M : Type 1} (𝓤 : URA M) (H : Heap 𝓤) (A : Atoms 𝓤) (W : Given
       (λ κs qs bounds a _ are. via 𝓤 _ (fst∗ 𝓤 _ (emp 𝓤))
       (walk 𝓤 H A W mem run (κs .0) (κs .1 .0) (κs .1 .1 .0) (κs .1 .1 .1 .0) (qs .0) (qs .1 .0) (qs .1 .1 .0) (qs .1 .1 .1 .0) (a .0) (a .1 .0)
       (a .1 .1 .0) (a .1 .1 .1 .0) (a .1 .1 .1 .1 .0) (a .1 .1 .1 .1 .1 .0)
-      𝓣 known-small known-load known (are .0 .1) (are .1 .0) (are .1 .1 .0) (are .1 .1 .1 .0 .1)))
+      𝓣 copied known (are .0 .1) (are .1 .0) (are .1 .1 .0) (are .1 .1 .1 .0 .1)))
 
   meets : Meets 𝓤 H A f.signature (WpFn 𝓤 H (𝓣 .C) (𝓣 .Λ) code.function) (f.spec 𝓤 H A mem run)
   meets = walk-meets 𝓤 H A f.ended stayed W (
@@ -252,7 +233,6 @@ ist-find-cost-list-spec 𝓤 H 𝓜 𝓖 𝓡 =
     entered 𝓤 H (tripleOf 𝓤 H (𝓖 .A) f.signature (f.spec 𝓤 H (𝓖 .A) (𝓜 .mem) (𝓡 .run)))
     (tables 𝓤 H 𝓜 𝓡 code.env .C) (tables 𝓤 H 𝓜 𝓡 code.env .Λ) #ist·list·ist-find-cost-list code.function (code.unfolded 𝓤 H 𝓜 𝓡)
     (meets 𝓤 H (𝓖 .A) (givenOf 𝓤 H 𝓜 𝓖) (𝓜 .mem) (𝓡 .run) (tablesOf 𝓤 H 𝓜 (tables 𝓤 H 𝓜 𝓡 code.env))
-    (cited 𝓤 H (Small 𝓤 H (𝓖 .A) (𝓜 .mem) (𝓡 .run)) 𝓜 𝓡 code.env #records·all-small small-def.routine code.calls-records·all-small (small-thm.met 𝓤 H 𝓜 𝓖 𝓡))
-    (cited 𝓤 H (Load 𝓤 H (𝓖 .A) (𝓜 .mem) (𝓡 .run)) 𝓜 𝓡 code.env #records·load load-def.routine code.calls-records·load (load-thm.met 𝓤 H 𝓜 𝓖 𝓡))
+    (cited 𝓤 H (Copy 𝓤 H (𝓖 .A) (𝓜 .mem) (𝓡 .run)) 𝓜 𝓡 code.env #records·copy-list copy-def.routine code.calls-records·copy-list (copy-thm.met 𝓤 H 𝓜 𝓖 𝓡))
     (cited 𝓤 H (Core 𝓤 H (𝓖 .A) (𝓜 .mem) (𝓡 .run)) 𝓜 𝓡 code.env #ist-lists·locate-copy core-def.routine code.calls-ist-lists·locate-copy
     (core-thm.met 𝓤 H 𝓜 𝓖 𝓡)))

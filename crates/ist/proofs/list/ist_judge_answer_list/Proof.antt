@@ -39,19 +39,16 @@ use denote.Triple.Walked.{says, Stays, stay-none, stay-none-slice, walkOf, goes-
 use denote.Exit.{yes}
 use denote.Triple.Clauses.{ensured, lasts}
 use Rattle.records.specs.declared.Link.{Link}
-use Rattle.records.specs.Records.{firstLinks, allSmall}
+use Rattle.records.specs.Records.{listCopy}
 use Rattle.records.proofs.LinkRows.{R, gone}
-use Rattle.records.proofs.all_small.Symbol as small-def
-use Rattle.records.proofs.all_small.Symbol.{name as #records·all-small}
-use Rattle.records.proofs.all_small.Met as small-thm
-use Rattle.records.proofs.load.Symbol as load-def
-use Rattle.records.proofs.load.Symbol.{name as #records·load}
-use Rattle.records.proofs.load.Met as load-thm
+use Rattle.records.proofs.copy_list.Symbol as copy-def
+use Rattle.records.proofs.copy_list.Symbol.{name as #records·copy-list}
+use Rattle.records.proofs.copy_list.Met as copy-thm
 use Rattle.accept.specs.ListJobs.{listJob}
 use Rattle.listed.specs.ListServices.{ListJudged}
 use Rattle.judging.specs.Verdicts.{AnswerJudged}
 use Rattle.codes.specs.Exports.{Of, Said}
-use Rattle.ist.proofs.Lent.{Small, Load, Links, Own, calls-small, calls-load, copy-typed, copy-makes}
+use Rattle.ist.proofs.Lent.{Copy, S, Own, calls-copy, copy-typed, copy-makes}
 use Rattle.ist_lists.proofs.judge_answer_copy as core
 use Rattle.ist_lists.proofs.judge_answer_copy.Symbol as core-def
 use Rattle.ist_lists.proofs.judge_answer_copy.Symbol.{name as #ist-lists·judge-answer-copy}
@@ -93,34 +90,25 @@ module _ {M : Type 1} (𝓤 : URA M) (H : Heap 𝓤) (A : Atoms 𝓤) (W : Given
   abbrev Toks : Item 𝓤
   Toks = ‵ (flft κ₁ q₁) ⊛ ‵ ftrue
 
-  -- the call of `judge_answer_copy`, at the results u and t of the two calls before
+  -- the call of `judge_answer_copy`, at the copy
   abbrev given-core : Args core.signature (κ₁, tt)
-  given-core = (n, (length (now s), (allSmall (now s), (firstLinks 256 (now s), (x, tt)))))
+  given-core = (n, (listCopy (now s), (x, tt)))
 
-  abbrev to : Val → Val → Core 𝓤 H A mem run .Ghost
-  to u t = (((κ₁, tt), (q₁, tt), tt, given-core, (vint w32 n ∷ [], (vint w64 (length (now s)) ∷ [], (u ∷ [], (t ∷ [], (slice-vals x, tt)))))), tt)
+  abbrev to : Val → Core 𝓤 H A mem run .Ghost
+  to u = (((κ₁, tt), (q₁, tt), tt, given-core, (vint w32 n ∷ [], (u ∷ [], (slice-vals x, tt)))), tt)
 
-  goes :
-      (u t : Val) →
-      n < 2 ^ 32 →
-      length (now s) < 2 ^ 64 →
-      Is bool (allSmall (now s)) (u ∷ []) →
-      Is Links (firstLinks 256 (now s)) (t ∷ []) →
-      ent 𝓤 (⋆ 𝓤 H A (Toks ∷ ‵ Answer ∷ [])) (Core 𝓤 H A mem run .pre (to u t))
-  goes u t gn gs is-small is-copy =
-      qed W (Toks ∷ ‵ Answer ∷ []) ∵ nothing ! $ move ! (2 ∷ 0 ∷ []) $ fjoin ! $ owned ! Links (Is Links) (copy-makes 𝓤 H A W)
-      (firstLinks 256 (now s)) _ is-copy $ fjoin ! $
-      owned ! bool (Is bool) (bool-makes 𝓤 H A W) (allSmall (now s)) _ is-small $ fjoin ! $ owned ! usize (Is usize) (uint-makes 𝓤 H A W w64)
-      (length (now s)) _ (refl, gs) $ fjoin ! $
+  goes : (u : Val) → n < 2 ^ 32 → Is S (listCopy (now s)) (u ∷ []) → ent 𝓤 (⋆ 𝓤 H A (Toks ∷ ‵ Answer ∷ [])) (Core 𝓤 H A mem run .pre (to u))
+  goes u gn is =
+      qed W (Toks ∷ ‵ Answer ∷ []) ∵ nothing ! $ move ! (2 ∷ 0 ∷ []) $ fjoin ! $ owned ! S (Is S) (copy-makes 𝓤 H A) (listCopy (now s)) _ is $ fjoin ! $
       owned ! u32 (Is u32) (uint-makes 𝓤 H A W w32) n _ (refl, gn) $ fjoin ! $ move ! (1 ∷ 0 ∷ []) $ join ! $ nothing ! $ move ! (1 ∷ 0 ∷ []) $ done !
 
   said :
       (r : i32 .Denot) →
       ent 𝓤 (ensured 𝓤 H A core.ended (core.clauses 𝓤 H A mem run) (κ₁, tt) given-core tt r)
-      (fact 𝓤 (Of (length (now s)) (allSmall (now s)) (firstLinks 256 (now s)) (λ ys. Φ n ys (now x) r)))
+      (fact 𝓤 (Of (listCopy (now s)) (λ ys. Φ n ys (now x) r)))
   said r =
       exE 𝓤 _ (λ ws. snd∗ 𝓤 (sem 𝓤 H A (lasts core.ended (κ₁, tt) given-core ws))
-      (fact 𝓤 (Of (length (now s)) (allSmall (now s)) (firstLinks 256 (now s)) (λ ys. Φ n ys (now x) r))))
+      (fact 𝓤 (Of (listCopy (now s)) (λ ys. Φ n ys (now x) r))))
 
   exits :
       (r : i32 .Denot) (z : Val) →
@@ -133,8 +121,7 @@ module _ {M : Type 1} (𝓤 : URA M) (H : Heap 𝓤) (A : Atoms 𝓤) (W : Given
       move ! (2 ∷ 1 ∷ []) $ join ! $ frame ! $ nothing ! $ move ! (3 ∷ 0 ∷ []) $ fjoin ! $ move ! (2 ∷ 0 ∷ []) $ fjoin ! $ owned ! u32 (Is u32)
       (uint-makes 𝓤 H A W w32) n _ (refl, gn) $ fjoin ! $ done !
 
-  module _ (𝓣 : Tables 𝓤 H) (known-small : Triple 𝓤 (𝓣 .C #records·all-small) (Small 𝓤 H A mem run))
-      (known-load : Triple 𝓤 (𝓣 .C #records·load) (Load 𝓤 H A mem run)) (known : Triple 𝓤 (𝓣 .C #ist-lists·judge-answer-copy) (Core 𝓤 H A mem run)) where
+  module _ (𝓣 : Tables 𝓤 H) (copied : Triple 𝓤 (𝓣 .C #records·copy-list) (Copy 𝓤 H A mem run)) (known : Triple 𝓤 (𝓣 .C #ist-lists·judge-answer-copy) (Core 𝓤 H A mem run)) where
     walk :
         n < 2 ^ 32 →
         Is (ShrSlice (named 0) κ R) s (slice-vals s) →
@@ -144,45 +131,38 @@ module _ {M : Type 1} (𝓤 : URA M) (H : Heap 𝓤) (A : Atoms 𝓤) (W : Given
     walk gn gs gx =
         qed W ((‵ (flft κ q) ⊛ Toks) ∷ ‵ (owns (u32 ∷ ShrSlice (named 0) κ R ∷ ShrSlice (named 1) κ₁ u8 ∷ []) a vals) ∷ []) ∵ enter ! (𝓣 .C)
         (𝓣 .Λ) code.function _ _ $
-        alloc1 ! (λ l₀. alloc1 ! (λ l₁. alloc1 !
-        (λ l₂. alloc1 ! (λ l₃. alloc1 ! (λ l₄. alloc1 ! (λ l₅. alloc1 ! (λ l₆. alloc0 ! $ params1 ! $ pass1 ! (init ! 10 refl (tt, record { fits = gn })) $
-        pass1 ! (init ! 8 refl (shr-slice-lawful 𝓤 H A W (named 0) κ R .typed s _ gs .0)) $ pass1 !
-        (init ! 6 refl (shr-slice-lawful 𝓤 H A W (named 1) κ₁ u8 .typed x _ gx .0)) $ pass0 ! $
-        assigns ! (of-opd ! (load ! (from ! (fld ! refl (stop !))) (look-in ! 8 (sub ! 1 refl (whole !))))) (from ! (stop !))
-        (init ! 4 refl (tt, record { fits = gs .0 .1 .0 })) $
-        move ! (14 ∷ []) $ split ! $ move ! (16 ∷ []) $ fsplit ! $ drop ! $ fsplit ! $ move ! (1 ∷ []) $ fsplit ! $
+        alloc1 ! (λ l₀. alloc1 ! (λ l₁. alloc1 ! (λ l₂. alloc1 ! (λ l₃. alloc1 ! (λ l₄. alloc0 ! $ params1 ! $
+        pass1 ! (init ! 6 refl (tt, record { fits = gn })) $ pass1 ! (init ! 4 refl (shr-slice-lawful 𝓤 H A W (named 0) κ R .typed s _ gs .0)) $
+        pass1 ! (init ! 2 refl (shr-slice-lawful 𝓤 H A W (named 1) κ₁ u8 .typed x _ gx .0)) $ pass0 ! $
+        move ! (10 ∷ []) $ split ! $ move ! (12 ∷ []) $ fsplit ! $ drop ! $ fsplit ! $ move ! (1 ∷ []) $ fsplit ! $
         use1 W (‵ Answer ⊛ ‵ Answer) (shr-slice-copy 𝓤 H A W (named 1) κ₁ u8 .twice x (slice-vals x)) $ split ! $ move ! (2 ∷ 4 ∷ 3 ∷ 5 ∷ 0 ∷ 1 ∷ []) $ drop ! $
-        -- [the list's token; what it owns; the answer's token; what the answer owns, twice; _6; …]
-        calls-small ! mem run s (fmOf 𝓤 H (W .laws) 𝓣) known-small (and-then ! (load ! (from ! (stop !)) (look ! 13 refl)) (no-more !)) (λ u is-small.
-        land ! (from ! (stop !)) (init ! 7 refl (bool-lawful 𝓤 H A W .typed _ _ is-small .0)) $
-        calls-load ! mem run s (fmOf 𝓤 H (W .laws) 𝓣) known-load (and-then ! (load ! (from ! (stop !)) (look ! 13 refl)) (no-more !)) (λ t is-copy.
-        land ! (from ! (stop !)) (init ! 5 refl (copy-typed 𝓤 H A W (firstLinks 256 (now s)) t is-copy)) $
-        move ! (2 ∷ 3 ∷ []) $ use2 W (raw (Core 𝓤 H A mem run .pre (to u t))) (goes u t gn (gs .0 .1 .0) is-small is-copy) $
-        -- [what `judge_answer` asks; the list's token; what it owns; what the answer owns; _6; …]
-        calls-at ! (fmOf 𝓤 H (W .laws) 𝓣) (Core 𝓤 H A mem run) known (to u t)
-        (and-then ! (load ! (from ! (stop !)) (look ! 14 refl))
-        (and-then ! (load ! (from ! (stop !)) (look ! 8 refl))
-        (and-then ! (load ! (from ! (stop !)) (look ! 6 refl))
-        (and-then ! (load ! (from ! (stop !)) (look ! 4 refl)) (and-then ! (load ! (from ! (stop !)) (look ! 10 refl)) (no-more !)))))) (λ z.
+        -- [the list's token; what it owns; the answer's token; what the answer owns, twice; _4; …]
+        calls-copy ! mem run s (fmOf 𝓤 H (W .laws) 𝓣) copied (and-then ! (load ! (from ! (stop !)) (look ! 9 refl)) (no-more !)) (λ u is.
+        land ! (from ! (stop !)) (init ! 5 refl (copy-typed 𝓤 H A W (listCopy (now s)) u is)) $
+        move ! (2 ∷ 3 ∷ []) $ use2 W (raw (Core 𝓤 H A mem run .pre (to u))) (goes u gn is) $
+        -- [what `judge_answer_copy` asks; the list's token; what it owns; what the answer owns; _4; …]
+        calls-at ! (fmOf 𝓤 H (W .laws) 𝓣) (Core 𝓤 H A mem run) known (to u)
+        (and-then ! (load ! (from ! (stop !)) (look ! 10 refl))
+        (and-then ! (load ! (from ! (stop !)) (look ! 4 refl)) (and-then ! (load ! (from ! (stop !)) (look ! 6 refl)) (no-more !)))) (λ z.
         use1 W (later (some (λ (r : i32 .Denot). (Toks ⊛ ‵ (i32 .own r (z ∷ []))) ⊛ raw
         (ensured 𝓤 H A core.ended (core.clauses 𝓤 H A mem run) (κ₁, tt) given-core tt r)))) (id⊢ 𝓤 _) $ await ! tt $ pick ! (λ r.
-        split ! $ move ! (1 ∷ []) $ use1 W (raw (fact 𝓤 (Of (length (now s)) (allSmall (now s)) (firstLinks 256 (now s)) (λ ys. Φ n ys (now x) r)))) (said r) $
-        heard ! (Of (length (now s)) (allSmall (now s)) (firstLinks 256 (now s)) (λ ys. Φ n ys (now x) r))
+        split ! $ move ! (1 ∷ []) $ use1 W (raw (fact 𝓤 (Of (listCopy (now s)) (λ ys. Φ n ys (now x) r)))) (said r) $
+        heard ! (Of (listCopy (now s)) (λ ys. Φ n ys (now x) r))
         (λ e. split ! $ move ! (1 ∷ []) $ peeks ! i32 (Is i32) (shows 𝓤 H A i32) r (z ∷ []) (λ told.
-        -- [the result; the answer's token; the list's token; what it owns; what the answer owns; _6; …]
-        land ! (from ! (stop !)) (init ! 17 refl (sint-lawful 𝓤 H A W w32 .typed r _ told .0)) $ returns ! (look ! 17 refl) $
-        gone ! 17 refl refl $ gone ! 15 refl refl $ gone ! 13 refl refl $ gone ! 11 refl refl $ gone ! 9 refl refl $ gone ! 7 refl refl $ gone ! 5 refl refl $
-        free0 ! $ by ! (exits r z gn (e (now s) refl refl refl)))))))))))))))
+        -- [the result; the answer's token; the list's token; what it owns; what the answer owns; _4; …]
+        land ! (from ! (stop !)) (init ! 13 refl (sint-lawful 𝓤 H A W w32 .typed r _ told .0)) $ returns ! (look ! 13 refl) $
+        gone ! 13 refl refl $ gone ! 11 refl refl $ gone ! 9 refl refl $ gone ! 7 refl refl $ gone ! 5 refl refl $ free0 ! $
+        by ! (exits r z gn (e (now s) refl))))))))))))
 
 module _ {M : Type 1} (𝓤 : URA M) (H : Heap 𝓤) (A : Atoms 𝓤) (W : Given 𝓤 H A) (mem : Memory → SProp 𝓤) (run : Routine → Fun 𝓤) (𝓣 : Tables 𝓤 H)
-    (known-small : Triple 𝓤 (𝓣 .C #records·all-small) (Small 𝓤 H A mem run)) (known-load : Triple 𝓤 (𝓣 .C #records·load) (Load 𝓤 H A mem run))
+    (copied : Triple 𝓤 (𝓣 .C #records·copy-list) (Copy 𝓤 H A mem run))
     (known : Triple 𝓤 (𝓣 .C #ist-lists·judge-answer-copy) (Core 𝓤 H A mem run)) where
   walks : Walks 𝓤 H A f.ended stayed (WpFn 𝓤 H (𝓣 .C) (𝓣 .Λ) code.function) (f.clauses 𝓤 H A mem run)
   walks =
       walked 𝓤 H A f.ended stayed (f.clauses 𝓤 H A mem run) (WpFn 𝓤 H (𝓣 .C) (𝓣 .Λ) code.function) (λ κs. (uint-vals w32, (slice-vals, (slice-vals, tt))))
       (λ κs. (uint-tells w32, (shr-slice-tells (named 0) (κs .0) R, (shr-slice-tells (named 1) (κs .1 .0) u8, tt))))
       (λ κs qs bounds a g are. via 𝓤 _ (fst∗ 𝓤 _ (emp 𝓤))
-      (walk 𝓤 H A W mem run (κs .0) (κs .1 .0) (qs .0) (qs .1 .0) (a .0) (a .1 .0) (a .1 .1 .0) 𝓣 known-small known-load known (are .0 .1) (are .1 .0)
+      (walk 𝓤 H A W mem run (κs .0) (κs .1 .0) (qs .0) (qs .1 .0) (a .0) (a .1 .0) (a .1 .1 .0) 𝓣 copied known (are .0 .1) (are .1 .0)
       (are .1 .1 .0)))
 
   meets : Meets 𝓤 H A f.signature (WpFn 𝓤 H (𝓣 .C) (𝓣 .Λ) code.function) (f.spec 𝓤 H A mem run)
@@ -199,7 +179,6 @@ ist-judge-answer-list-spec 𝓤 H 𝓜 𝓖 𝓡 =
     entered 𝓤 H (tripleOf 𝓤 H (𝓖 .A) f.signature (f.spec 𝓤 H (𝓖 .A) (𝓜 .mem) (𝓡 .run)))
     (tables 𝓤 H 𝓜 𝓡 code.env .C) (tables 𝓤 H 𝓜 𝓡 code.env .Λ) #ist·list·ist-judge-answer-list code.function (code.unfolded 𝓤 H 𝓜 𝓡)
     (meets 𝓤 H (𝓖 .A) (givenOf 𝓤 H 𝓜 𝓖) (𝓜 .mem) (𝓡 .run) (tablesOf 𝓤 H 𝓜 (tables 𝓤 H 𝓜 𝓡 code.env))
-    (cited 𝓤 H (Small 𝓤 H (𝓖 .A) (𝓜 .mem) (𝓡 .run)) 𝓜 𝓡 code.env #records·all-small small-def.routine code.calls-records·all-small (small-thm.met 𝓤 H 𝓜 𝓖 𝓡))
-    (cited 𝓤 H (Load 𝓤 H (𝓖 .A) (𝓜 .mem) (𝓡 .run)) 𝓜 𝓡 code.env #records·load load-def.routine code.calls-records·load (load-thm.met 𝓤 H 𝓜 𝓖 𝓡))
+    (cited 𝓤 H (Copy 𝓤 H (𝓖 .A) (𝓜 .mem) (𝓡 .run)) 𝓜 𝓡 code.env #records·copy-list copy-def.routine code.calls-records·copy-list (copy-thm.met 𝓤 H 𝓜 𝓖 𝓡))
     (cited 𝓤 H (Core 𝓤 H (𝓖 .A) (𝓜 .mem) (𝓡 .run)) 𝓜 𝓡 code.env #ist-lists·judge-answer-copy core-def.routine code.calls-ist-lists·judge-answer-copy
     (core-thm.met 𝓤 H 𝓜 𝓖 𝓡)))

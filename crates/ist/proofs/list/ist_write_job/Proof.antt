@@ -3,16 +3,13 @@
 use contract.Running.{givenOf, tables, tablesOf}
 use denote.Triple.Spec.{tripleOf}
 use denote.Triple.Table.{entered, cited}
-use Rattle.records.proofs.all_small.Symbol as small-def
-use Rattle.records.proofs.all_small.Symbol.{name as #records·all-small}
-use Rattle.records.proofs.all_small.Met as small-thm
-use Rattle.records.proofs.load.Symbol as load-def
-use Rattle.records.proofs.load.Symbol.{name as #records·load}
-use Rattle.records.proofs.load.Met as load-thm
+use Rattle.records.proofs.copy_list.Symbol as copy-def
+use Rattle.records.proofs.copy_list.Symbol.{name as #records·copy-list}
+use Rattle.records.proofs.copy_list.Met as copy-thm
 use Rattle.accept.specs.ListJobs.{listJob}
 use Rattle.listed.specs.ListServices.{ListWritten}
 use Rattle.codes.specs.Exports.{Replied}
-use Rattle.ist.proofs.Lent.{Small, Load}
+use Rattle.ist.proofs.Lent.{Copy}
 use Rattle.ist.proofs.WriteEntry.{Says, Core, meets}
 use Rattle.ist_writers.proofs.write_copy.Symbol as core-def
 use Rattle.ist_writers.proofs.write_copy.Symbol.{name as #ist-writers·write-copy}
@@ -31,6 +28,5 @@ ist-write-job-spec 𝓤 H 𝓜 𝓖 𝓡 =
     entered 𝓤 H (tripleOf 𝓤 H (𝓖 .A) f.signature (f.spec 𝓤 H (𝓖 .A) (𝓜 .mem) (𝓡 .run)))
     (tables 𝓤 H 𝓜 𝓡 code.env .C) (tables 𝓤 H 𝓜 𝓡 code.env .Λ) #ist·list·ist-write-job code.function (code.unfolded 𝓤 H 𝓜 𝓡)
     (meets 𝓤 H (𝓖 .A) (givenOf 𝓤 H 𝓜 𝓖) Φ (𝓜 .mem) (𝓡 .run) (tablesOf 𝓤 H 𝓜 (tables 𝓤 H 𝓜 𝓡 code.env)) #ist-writers·write-copy
-    (cited 𝓤 H (Small 𝓤 H (𝓖 .A) (𝓜 .mem) (𝓡 .run)) 𝓜 𝓡 code.env #records·all-small small-def.routine code.calls-records·all-small (small-thm.met 𝓤 H 𝓜 𝓖 𝓡))
-    (cited 𝓤 H (Load 𝓤 H (𝓖 .A) (𝓜 .mem) (𝓡 .run)) 𝓜 𝓡 code.env #records·load load-def.routine code.calls-records·load (load-thm.met 𝓤 H 𝓜 𝓖 𝓡))
+    (cited 𝓤 H (Copy 𝓤 H (𝓖 .A) (𝓜 .mem) (𝓡 .run)) 𝓜 𝓡 code.env #records·copy-list copy-def.routine code.calls-records·copy-list (copy-thm.met 𝓤 H 𝓜 𝓖 𝓡))
     (cited 𝓤 H (Core 𝓤 H (𝓖 .A) Φ) 𝓜 𝓡 code.env #ist-writers·write-copy core-def.routine code.calls-ist-writers·write-copy (core-thm.met 𝓤 H 𝓜 𝓖 𝓡)))
