@@ -16,17 +16,18 @@ use Rattle.graph.specs.RankLaws.{tree-lists}
 use Rattle.graph.specs.Paths.{rooted, isTree}
 use Rattle.frame.specs.Job.{JobLink, Job, link, graphOf, treeOf, costOf}
 use Rattle.frame.specs.Arrays.{Columns, Arrays}
-use Rattle.frame.specs.Questions.{jobOf, question6, formRefusal}
-use Rattle.frame.specs.RoundTrip.{links-few}
-use Rattle.frame.specs.Lists.{small-job, counted-limits}
-use Rattle.frame.specs.Accepted.{listed-accepted, form-listed, cost-small}
+use Rattle.frame.specs.Questions.{ask, jobOf, question4, question5, question6, layoutRefusal, jobRefusal}
+use Rattle.frame.specs.Form.{question4-means, question5-means, two-refused}
+use Rattle.frame.specs.Lists.{Listed, ask-passed, small-job, counted-limits}
+use Rattle.frame.specs.Accepted.{laid-job, listed-accepted, cost-small}
 use Rattle.paths.specs.Arrays.{arrayGraph, RankedEnds, Walked}
 use Rattle.ranks.specs.Keys.{treeList, SmallCosts}
 use Rattle.job.specs.Reading.{filled}
-use Rattle.links.specs.Columns.{firsts, seconds, costs, marks, Places}
+use Rattle.links.specs.Columns.{firsts, seconds, costs, marks, linksRefusal, Places}
 use Rattle.links.specs.ColumnLaws.{column-held, length-zeros}
+use Rattle.links.specs.ListLaws.{list-links}
 use Rattle.held.specs.Held.{Stored, Held}
-use Rattle.held.specs.HeldLaws.{graph-stored}
+use Rattle.held.specs.HeldLaws.{graph-stored, stored-job}
 use Rattle.accept.specs.Accepting.{Empty, treeRefusal}
 
 abbrev placesOf : List ℕ → ℕ → ℕ
@@ -41,21 +42,23 @@ empty-places e =
       mark = ap length (e .mark) ∙ length-zeros 256;
     }
 
--- A frame of good form, read into arrays of zeros, is so stored.
+-- A frame that passes questions 1 to 3, read into arrays of zeros, is so stored.
 pub stored :
     (s : List ℕ) (z : Arrays) (c : Columns) (nodes edges : ℕ) →
     Bytes s →
-    formRefusal s ≡ 0 →
+    layoutRefusal s ≡ 0 →
     Empty z →
     c ≡ filled (jobOf s .links) 0 (z .links) →
     nodes ≡ jobOf s .nodes →
     edges ≡ length (jobOf s .links) →
     Stored (jobOf s) nodes edges c
 stored s z c nodes edges b none empty full pn pm =
-    let few = links-few s b none in
+    let (small, counted) = laid-job s b none in
+    let few = counted-limits (jobOf s) counted .2 in
     let ls = jobOf s .links in
     record {
-      form = form-listed s b none;
+      small = small;
+      counted = counted;
       nodes-are = pn;
       edges-are = pm;
       end₁ =
@@ -72,15 +75,36 @@ stored s z c nodes edges b none empty full pn pm =
           column-held (λ (l : JobLink). l .mark) refl 256 ls few;
     }
 
+-- Of a job that passes questions 1 to 5, question 6 decides.
+tree-asked : {j : Job} → Listed j → treeRefusal j ≡ jobRefusal j
+tree-asked {j} f = rw (question4-means j .1 (f .ends), question5-means j .1 (f .marks))
+
 module _ {j : Job} {n m : ℕ} {c : Columns} (k : Stored j n m c) where
   nodes-few : n ≤ 64
-  nodes-few = omega (arith, k .nodes-are, counted-limits j (k .form .counted) .1)
+  nodes-few = omega (arith, k .nodes-are, counted-limits j (k .counted) .1)
 
   pub edges-most : m ≤ 256
-  edges-most = omega (arith, k .edges-are, counted-limits j (k .form .counted) .2)
+  edges-most = omega (arith, k .edges-are, counted-limits j (k .counted) .2)
 
   pub costs-small : SmallCosts m (c .cost)
-  costs-small e l = omega (arith, ap (λ (f : ℕ → ℕ). f e) (k .cost), cost-small j (small-job j (k .form .small)) e)
+  costs-small e l = omega (arith, ap (λ (f : ℕ → ℕ). f e) (k .cost), cost-small j (small-job j (k .small)) e)
+
+  -- Questions 4 and 5 over the arrays are those of the job.
+  links-asked : linksRefusal n m (c .end₁) (c .end₂) (c .mark) ≡ (ask (question4 j) 4 λ _. ask (question5 j) 5 λ _. 0)
+  links-asked = list-links n m c ∙ ap (λ (j : Job). ask (question4 j) 4 λ _. ask (question5 j) 5 λ _. 0) (stored-job k)
+
+  -- Where they refuse, and where the job passes them.
+  module _ (r : ℕ) (said : r ≡ linksRefusal n m (c .end₁) (c .end₂) (c .mark)) where
+    pub links-wrong : (r ≡ 0 → ⊥) → r ≡ jobRefusal j
+    links-wrong w =
+        let two = said ∙ links-asked in
+        two ∙ sym (two-refused (question4 j) (question5 j) 4 5 (treeRefusal j) (λ z. w (two ∙ z)))
+
+    pub links-right : r ≡ 0 → Listed j
+    links-right z =
+        let (y₄, rest) = ask-passed (question4 j) 3 (λ _. ask (question5 j) 5 λ _. 0) (sym (said ∙ links-asked) ∙ z) in
+        let y₅ = ask-passed (question5 j) 4 (λ _. 0) rest .0 in
+        record { small = k .small; counted = k .counted; ends = question4-means j .0 y₄; marks = question5-means j .0 y₅ }
 
   -- The tree edges by rank.
   byRank : ℕ → (ℕ → ℕ) → (ℕ → ℕ) → List ℕ
@@ -91,8 +115,8 @@ module _ {j : Job} {n m : ℕ} {c : Columns} (k : Stored j n m c) where
   ranks-are = ap₂ (byRank m) (k .cost) (k .mark) ∙ ap (λ (m : ℕ). byRank m (costOf j) (λ e. link j e .mark)) (k .edges-are)
 
   -- The code's count of tree edges, and its ranks.
-  module _ (count : ℕ) (ts : List ℕ) (size : count ≡ length (treeList m (c .cost) (c .mark))) (ranked : take count ts ≡ treeList m (c .cost) (c .mark))
-      (places : length ts ≡ 256) where
+  module _ (f : Listed j) (count : ℕ) (ts : List ℕ) (size : count ≡ length (treeList m (c .cost) (c .mark)))
+      (ranked : take count ts ≡ treeList m (c .cost) (c .mark)) (places : length ts ≡ 256) where
     ts-are : take count ts ≡ treeRanks (graphOf j) (treeOf j) (costOf j)
     ts-are = ranked ∙ ranks-are
 
@@ -108,8 +132,8 @@ module _ {j : Job} {n m : ℕ} {c : Columns} (k : Stored j n m c) where
     unfolding question6
     question-wrong w = rw (← ts-count, ne-eqb (suc count) (j .nodes) (λ q. w (omega (arith, q, k .nodes-are))))
 
-    pub count-wrong : (count + 1 ≡ n → ⊥) → 6 ≡ treeRefusal j
-    count-wrong w = rw (question-wrong w)
+    pub count-wrong : (count + 1 ≡ n → ⊥) → 6 ≡ jobRefusal j
+    count-wrong w = let six : 6 ≡ treeRefusal j = rw (question-wrong w) in six ∙ tree-asked f
 
     module _ (right : count + 1 ≡ n) where
       rank-edge : (i : ℕ) → i < count → getD ts i 0 < length (j .links)
@@ -124,8 +148,8 @@ module _ {j : Job} {n m : ℕ} {c : Columns} (k : Stored j n m c) where
             few = omega (arith, right, nodes-few);
             within = omega (arith, count-few, places);
             edge = λ i l. omega (arith, rank-edge i l, edges-most, k .edges-are);
-            first = λ i l. omega (arith, ap (λ (f : ℕ → ℕ). f (getD ts i 0)) (k .end₁), k .form .ends .first (getD ts i 0) (rank-edge i l), k .nodes-are);
-            second = λ i l. omega (arith, ap (λ (f : ℕ → ℕ). f (getD ts i 0)) (k .end₂), k .form .ends .second (getD ts i 0) (rank-edge i l), k .nodes-are);
+            first = λ i l. omega (arith, ap (λ (f : ℕ → ℕ). f (getD ts i 0)) (k .end₁), f .ends .first (getD ts i 0) (rank-edge i l), k .nodes-are);
+            second = λ i l. omega (arith, ap (λ (f : ℕ → ℕ). f (getD ts i 0)) (k .end₂), f .ends .second (getD ts i 0) (rank-edge i l), k .nodes-are);
           }
 
       -- Whether they join all stations.
@@ -134,22 +158,25 @@ module _ {j : Job} {n m : ℕ} {c : Columns} (k : Stored j n m c) where
         unfolding question6
         tree-answer = said m ∙ ap₂ isTree (graph-stored k) ts-are
 
-        pub tree-wrong : r ≡ false → 6 ≡ treeRefusal j
-        tree-wrong f = let no : question6 j ≡ false = sym tree-answer ∙ f in rw no
+        pub tree-wrong : r ≡ false → 6 ≡ jobRefusal j
+        tree-wrong w =
+            let no : question6 j ≡ false = sym tree-answer ∙ w in
+            let six : 6 ≡ treeRefusal j = rw no in
+            six ∙ tree-asked f
 
         module _ (y : r ≡ true) where
           tree-yes : question6 j ≡ true
           tree-yes = sym tree-answer ∙ y
 
-          pub tree-right : 0 ≡ treeRefusal j
-          tree-right = rw tree-yes
+          pub tree-right : 0 ≡ jobRefusal j
+          tree-right = let none : 0 ≡ treeRefusal j = rw tree-yes in none ∙ tree-asked f
 
           pub tree-held : (mask : List ℕ) → Walked n count ts (c .end₁) (c .end₂) n mask → Held j n m (record { links = c; ranks = ts; mask = mask })
           tree-held mask w =
               let last : n - 1 ≡ count = omega (arith, right) in
               record {
                 stored = k;
-                accepted = listed-accepted j (k .form) tree-yes;
+                accepted = listed-accepted j f tree-yes;
                 ranks = ap (λ (i : ℕ). take i ts) last ∙ ts-are;
                 places = places;
                 paths = w .paths m ∙ (λ i. rooted (graph-stored k i) (ts-are i) .path);

@@ -3,10 +3,10 @@
 ghost use mathlib.Core.Path.{_≡_};
 ghost use lib.ListN.{length};
 ghost use Rattle.frame.specs.Job.{Job};
-ghost use Rattle.frame.specs.Questions.{jobOf, listRefusal};
+ghost use Rattle.frame.specs.Questions.{jobOf, jobRefusal, listRefusal};
 ghost use Rattle.frame.specs.Arrays.{columns, arrays, jobAt};
 ghost use Rattle.held.specs.Held.{Stored, Held};
-ghost use Rattle.accept.specs.Accepting.{Empty, SomeHeld, treeRefusal, acceptedHeader};
+ghost use Rattle.accept.specs.Accepting.{Empty, SomeHeld, acceptedHeader};
 ghost use Rattle.job.specs.Reading.{refusedHeader};
 ghost use Rattle.accept.specs.Lists.{ListHeld};
 ghost use Rattle.accept.specs.ListJobs.{countRefusal, Given, ListAccepted};
@@ -17,8 +17,9 @@ use limits::MOST_LENGTH;
 use limits::MOST_NUMBER;
 use records::ListCopy;
 
-// Question 6 of a job in arrays that has passed the others: 6, or 0, and then the tree ranks and paths are found.
-fn tree_refusal(
+// The first refusal of questions 4 to 6 for a job in arrays that has passed the others; or 0, and then the tree ranks and
+// paths are found.
+fn job_refusal(
     nodes: u32,
     edges: usize,
     end1: &[u32; 256],
@@ -31,10 +32,14 @@ fn tree_refusal(
     requires { ⌜ ((j : Job) × Stored j nodes edges (columns (now end1) (now end2) (now cost) (now mark))) ⌝ }
     requires { ⌜ length (now ts) ≡ 256 ⌝ }
     ensures refusal { λ r. ⌜ ((j : Job) → Stored j nodes edges (columns (now (end1 .entry)) (now (end2 .entry)) (now (cost .entry)) (now (mark .entry)))
-        → r ≡ treeRefusal j) ⌝ }
+        → r ≡ jobRefusal j) ⌝ }
     ensures held { λ r. ⌜ ((j : Job) → Stored j nodes edges (columns (now (end1 .entry)) (now (end2 .entry)) (now (cost .entry)) (now (mark .entry))) → r ≡ 0
         → Held j nodes edges (arrays (now (end1 .entry)) (now (end2 .entry)) (now (cost .entry)) (now (mark .entry)) (now (ts .exit)) (now (mask .exit)))) ⌝ }
 {
+    let wrong = links::links_refusal(nodes, edges, end1, end2, mark);
+    if wrong != 0 {
+        return wrong;
+    }
     let count = ranks::tree_ranks(edges, cost, mark, ts);
     if count + 1 != nodes as usize {
         return 6;
@@ -66,7 +71,7 @@ pub fn accept(
         return header;
     }
     let edges = header.edges as usize;
-    let wrong = tree_refusal(header.nodes, edges, end1, end2, cost, mark, ts, mask);
+    let wrong = job_refusal(header.nodes, edges, end1, end2, cost, mark, ts, mask);
     if wrong != 0 {
         return refused(wrong);
     }
@@ -96,7 +101,7 @@ pub fn accept_list(
     if refusal != 0 {
         return refusal;
     }
-    tree_refusal(nodes, edges, end1, end2, cost, mark, ts, mask)
+    job_refusal(nodes, edges, end1, end2, cost, mark, ts, mask)
 }
 
 // The refusal that is known before a link is looked at: by the word on large numbers and by the counts.

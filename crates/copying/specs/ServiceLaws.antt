@@ -10,9 +10,8 @@ use lib.ListN.{length, take, length-replicate}
 use lib.Seq.{sets}
 use borrow.Author.Tests.{le-leb, lt-leb}
 use Rattle.frame.specs.Job.{JobLink, Job, fields}
-use Rattle.frame.specs.Questions.{jobOf, numbers, formRefusal, refusal}
-use Rattle.frame.specs.Form.{form-refusal}
-use Rattle.frame.specs.Accepted.{accepted}
+use Rattle.frame.specs.Questions.{jobOf, numbers, refusal}
+use Rattle.frame.specs.Accepted.{accepted, accepted-layout}
 use Rattle.frame.specs.AnswerLayout.{length-both}
 use Rattle.frame.specs.Services.{written}
 use Rattle.number.specs.Number.{Bytes}
@@ -21,7 +20,7 @@ use Rattle.optimum.specs.Optimum.{Answer}
 use Rattle.job.specs.declared.Counts.{Counts}
 use Rattle.job.specs.declared.Header.{Header}
 use Rattle.job.specs.Reading.{countsOf, header}
-use Rattle.job.specs.FormLaws.{counts-passed, counts-refused}
+use Rattle.job.specs.LayoutLaws.{counts-passed, counts-refused}
 use Rattle.frame.specs.Answers.{pairFrom}
 use Rattle.codec.specs.Numbers.{numbersAt}
 use Rattle.codec.specs.Held.{pairsAt}
@@ -138,10 +137,9 @@ module _ (s room : List ℕ) (r : JobRead) (g : JobGiven s r) where
 pub edges-of : (s : List ℕ) → Bytes s → (k : Counts) → k ≡ countsOf (numbers s) → refusal s ≡ 0 → k .edges ≡ length (jobOf s .links)
 unfolding header
 edges-of s b k e z =
-    let form : formRefusal s ≡ 0 = form-refusal s ∙ rw z in
     elim (ℕ-discrete (k .refusal) 0) [
       | yes q ↦ sym (counts-passed s b k e q .edges)
-      | no q ↦ absurd (q (ap (λ (h : Header). h .refusal) (counts-refused s k e q ∙ ap (λ (n : ℕ). header n (jobOf s)) form)))
+      | no q ↦ absurd (q (ap (λ (h : Header). h .refusal) (counts-refused s k e q ∙ ap (λ (n : ℕ). header n (jobOf s)) (accepted-layout s z))))
     ]
 
 -- What is said after the verdict v on the answer a, and what the arrays then hold.

@@ -16,11 +16,11 @@ use Rattle.frame.specs.AnswerJudge.{answer-judged, certified-judged}
 use Rattle.frame.specs.Questions.{jobOf, refusal}
 use Rattle.frame.specs.Services.{Place, nowhere, partAt}
 use Rattle.frame.specs.Replies.{linkPlace, linkPart, costPlace, costPart}
-use Rattle.frame.specs.Accepted.{accepted, accepted-form}
+use Rattle.frame.specs.Accepted.{accepted, accepted-layout}
 use Rattle.frame.specs.Finders.{link-shown, link-refused, link-past, cost-nowhere-refused, cost-nowhere-past, cost-nowhere-judged}
 use Rattle.frame.specs.Finders.{cost-placed, cost-shown, cost-refused, cost-past, cost-judged-no}
 use Rattle.job.specs.declared.Header.{Header}
-use Rattle.job.specs.Reading.{header, headerOf}
+use Rattle.job.specs.Reading.{header, layoutHeader}
 use Rattle.accept.specs.Accepting.{acceptedHeader}
 use Rattle.accept.specs.AcceptLaws.{accepted-number}
 use Rattle.answer_read.specs.Costs.{CostIn, costPlaceIn}
@@ -39,10 +39,10 @@ between-ends P s place h =
     subst (λ (n : ℕ). P (take n (drop (place .offset) s))) (sym size) h
 
 -- The header of an accepted frame is the reader's.
-pub header-read : (s : List ℕ) (h : Header) → h ≡ acceptedHeader s → h .refusal ≡ 0 → h ≡ headerOf s
+pub header-read : (s : List ℕ) (h : Header) → h ≡ acceptedHeader s → h .refusal ≡ 0 → h ≡ layoutHeader s
 header-read s h e z =
     let none : refusal s ≡ 0 = accepted-number s h e ∙ z in
-    e ∙ ap (λ (r : ℕ). header r (jobOf s)) (none ∙ sym (accepted-form s none))
+    e ∙ ap (λ (r : ℕ). header r (jobOf s)) (none ∙ sym (accepted-layout s none))
 
 link-found : (s : List ℕ) → Bytes s → (e : ℕ) → LinkFound s e (linkPart (refusal s) s e)
 link-found s b e =

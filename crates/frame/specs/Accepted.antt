@@ -1,11 +1,13 @@
 -- Accepted jobs, those that pass questions 1 to 6: what they are, and that a frame or a list of links passes exactly if it is one;
 -- the round trips of accepted jobs; when question 6 refuses. Assumes nothing.
 use Prim.Native.Nat.{ℕ, zero, suc, _≤_, _<_}
+use native.Mathlib.Decide.{ℕ-discrete}
 use native.Mathlib.Omega.{arith}
-use mathlib.Core.Path.{_≡_, sym, subst, ap, _∙_}
+use mathlib.Core.Path.{_≡_, refl, sym, subst, ap, _∙_}
 use mathlib.Core.Logic.{_↔_}
 use mathlib.Core.Bool.{true, _&&_}
 use mathlib.Core.List.{List, [], _∷_, _++_, flatMap}
+use mathlib.Core.Option.{Option}
 use lib.Dec.{leb}
 use lib.ListN.{length, getD}
 use borrow.Author.Tests.{le-leb}
@@ -15,11 +17,14 @@ use Rattle.number.specs.Laws.{bytes-nil, bytes-append, encode-bytes}
 use Rattle.graph.specs.Graph.{Sound}
 use Rattle.frame.specs.Job.{JobLink, Job, noLink, link, fields, jobNumbers, bytesOf, jobFrame, graphOf, costOf}
 use Rattle.limits.specs.Limits.{maxNodes, maxEdges, maxNumber, numberBytes}
-use Rattle.frame.specs.Questions.{jobOf, question6, ask, formRefusal, refusal, counted, listRefusal}
+use Rattle.frame.specs.Questions.{jobOf, numbers, question1, question2, question3, question6}
+use Rattle.frame.specs.Questions.{ask, layoutRefusal, formRefusal, refusal, counted, listRefusal}
 use Rattle.frame.specs.Services.{smallNumbers, small}
-use Rattle.frame.specs.Meaning.{Small, EndsHold, TreeHolds, Formed, FirstNo, Accepted, jobFrom}
+use Rattle.frame.specs.Meaning.{Small, Divides, Counted, Complete, EndsHold, TreeHolds, Formed, FirstNo, Accepted, jobFrom}
 use Rattle.frame.specs.Meaning.FirstNo.{no1, no2, no3, no4, no5, no6, none}
-use Rattle.frame.specs.Form.{ends-sound, question4-means, question5-means, question6-means, first-no, first-no-unique, form-refusal, beforeTree}
+use Rattle.frame.specs.Division.{division}
+use Rattle.frame.specs.Form.{question2-means, question3-means, question4-means, question5-means, question6-means, ends-sound}
+use Rattle.frame.specs.Form.{first-no, first-no-unique, form-refusal, beforeTree, layout-refused}
 use Rattle.frame.specs.RoundTrip.{job-numbers, formed, job-of, write-read}
 use Rattle.frame.specs.Lists.{Listed, ask-passed, list-passed, small-job, counted-limits, list-as-frame, list-read}
 
@@ -70,28 +75,42 @@ passed (no5 ns d h₂ h₃ h₄ q) e = absurd (omega arith)
 passed (no6 ns f q) e = absurd (omega arith)
 passed (none ns f t) e = (ns, f, t)
 
-formed-listed : {s ns : List ℕ} → Formed s ns → Listed (jobFrom ns)
+-- Numbers that pass questions 1 to 3 are a job of small numbers and counts.
+laid-small : {s ns : List ℕ} → Divides s ns → Counted ns → Complete ns → (small (jobFrom ns) ≡ true) × (counted (jobFrom ns) ≡ true)
 unfolding counted
-formed-listed {ns = ns} f =
-    let same : jobNumbers (jobFrom ns) ≡ ns = job-numbers ns (f .counted .two) (f .complete) in
-    let edges : length (jobFrom ns .links) ≤ maxEdges = rw (ap (λ ms. getD ms 1 0) same) (f .counted .edge-limit) in
-    record {
-      small = job-small (jobFrom ns) (subst Small (sym same) (f .divides .small));
-      counted =
-          rw (
-            le-leb 1 (jobFrom ns .nodes) (f .counted .some-node),
-            le-leb (jobFrom ns .nodes) maxNodes (f .counted .node-limit),
-            le-leb (length (jobFrom ns .links)) maxEdges edges,
-          );
-      ends = f .ends;
-      marks = f .marks;
-    }
+laid-small {ns = ns} d c k =
+    let same : jobNumbers (jobFrom ns) ≡ ns = job-numbers ns (c .two) k in
+    let edges : length (jobFrom ns .links) ≤ maxEdges = rw (ap (λ ms. getD ms 1 0) same) (c .edge-limit) in (
+      job-small (jobFrom ns) (subst Small (sym same) (d .small)),
+      rw (
+        le-leb 1 (jobFrom ns .nodes) (c .some-node),
+        le-leb (jobFrom ns .nodes) maxNodes (c .node-limit),
+        le-leb (length (jobFrom ns .links)) maxEdges edges,
+      ),
+    )
 
--- A frame that passes questions 1 to 5 is that of such a job.
-pub form-listed : (s : List ℕ) → Bytes s → formRefusal s ≡ 0 → Listed (jobOf s)
-form-listed s h e =
-    let (ns, f) = formed s h e in
-    rw (job-of s ns h (f .divides)) (formed-listed f)
+formed-listed : {s ns : List ℕ} → Formed s ns → Listed (jobFrom ns)
+formed-listed f =
+    let (small, counted) = laid-small (f .divides) (f .counted) (f .complete) in
+    record { small = small; counted = counted; ends = f .ends; marks = f .marks }
+
+-- The numbers of a frame that passes questions 1 to 3, and its job.
+pub laid : (s : List ℕ) → Bytes s → layoutRefusal s ≡ 0 → (ns : List ℕ) × Divides s ns × Counted ns × Complete ns
+laid s h = of (numbers s) refl
+  where
+    of :
+        (o : Option (List ℕ)) → numbers s ≡ o → (question1 o λ ns. ask (question2 ns) 2 λ _. ask (question3 ns) 3 λ _. 0) ≡ 0 →
+        (ns : List ℕ) × Divides s ns × Counted ns × Complete ns
+    of (Option.some ns) e z =
+        let (y₂, r) = ask-passed (question2 ns) 1 (λ _. ask (question3 ns) 3 λ _. 0) z in
+        let (y₃, _) = ask-passed (question3 ns) 2 (λ _. 0) r in
+        (ns, division s ns h .0 e, question2-means ns .0 y₂, question3-means ns .0 y₃)
+    of Option.none e z = absurd (omega (arith, z))
+
+pub laid-job : (s : List ℕ) → Bytes s → layoutRefusal s ≡ 0 → (small (jobOf s) ≡ true) × (counted (jobOf s) ≡ true)
+laid-job s h e =
+    let (ns, d, c, k) = laid s h e in
+    rw (job-of s ns h d) (laid-small d c k)
 
 pub accepted : (s : List ℕ) → Bytes s → refusal s ≡ 0 → Accepted (jobOf s)
 accepted s h e =
@@ -100,6 +119,9 @@ accepted s h e =
 
 pub accepted-form : (s : List ℕ) → refusal s ≡ 0 → formRefusal s ≡ 0
 accepted-form s e = form-refusal s ∙ ap beforeTree e
+
+pub accepted-layout : (s : List ℕ) → refusal s ≡ 0 → layoutRefusal s ≡ 0
+accepted-layout s e = elim (ℕ-discrete (layoutRefusal s) 0) [ yes z ↦ z | no n ↦ absurd (n (sym (layout-refused s n) ∙ e)) ]
 
 -- ---- lists of links
 

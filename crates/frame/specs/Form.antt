@@ -5,8 +5,8 @@ use native.Mathlib.Omega.{arith}
 use mathlib.Core.Path.{_≡_, refl, ap, _∙_}
 use mathlib.Core.Logic.{_↔_, _⊎_, inl, inr, ⊎-elim}
 use mathlib.Core.Bool.{Bool, true, false, not, _&&_}
-use mathlib.Core.List.{List}
-use mathlib.Core.Option.{Option, some}
+use mathlib.Core.List.{List, []}
+use mathlib.Core.Option.{Option, some, Option·getD}
 use lib.Dec.{leb, ltb, eqb}
 use lib.ListN.{length}
 use borrow.Author.Tests.{leb-true, ltb-true, eqb-true, eqb-false, le-leb, lt-ltb, eq-eqb, ne-eqb, not-true}
@@ -19,7 +19,7 @@ use Rattle.graph.specs.Tree.{tree-means}
 use Rattle.frame.specs.Job.{Job, link, graphOf, treeOf, costOf}
 use Rattle.limits.specs.Limits.{maxNodes, maxEdges}
 use Rattle.frame.specs.Questions.{numbers, question1, question2, question3, question4, question5}
-use Rattle.frame.specs.Questions.{question6, ask, numberQuestions, formRefusal, refusal, later}
+use Rattle.frame.specs.Questions.{question6, ask, numberQuestions, jobOf, layoutRefusal, jobRefusal, formRefusal, refusal, later}
 use Rattle.frame.specs.Meaning.{Divides, Counted, Complete, EndsHold, MarksHold, TreeHolds, Formed, FirstNo, FirstNoWith, nodeCount, edgeCount, jobFrom}
 use Rattle.frame.specs.Meaning.FirstNo.{no1, no2, no3, no4, no5, no6, none}
 use Rattle.frame.specs.Meaning.FirstNoWith.{earlier, own, passed}
@@ -229,3 +229,37 @@ form-refusal s = of (numbers s)
 
 pub form : (s : List ℕ) (r : ℕ) → Bytes s → FirstNo s r → formRefusal s ≡ beforeTree r
 form s r h q = form-refusal s ∙ ap beforeTree (first-no-unique s r h q)
+
+-- Two questions in turn, and then x.
+pub two-refused :
+    (a b : Bool) (m n x : ℕ) → ((ask a m λ _. ask b n λ _. 0) ≡ 0 → ⊥) → (ask a m λ _. ask b n λ _. x) ≡ (ask a m λ _. ask b n λ _. 0)
+two-refused true true m n x h = absurd (h refl)
+two-refused true false m n x h = refl
+two-refused false b m n x h = refl
+
+pub two-passed :
+    (a b : Bool) (m n x : ℕ) → (ask a (suc m) λ _. ask b (suc n) λ _. 0) ≡ 0 → (ask a (suc m) λ _. ask b (suc n) λ _. x) ≡ x
+two-passed true true m n x h = refl
+two-passed true false m n x h = absurd (omega arith)
+two-passed false b m n x h = absurd (omega arith)
+
+-- A refusal by questions 1 to 3 is that of the frame; without one it is that of the job.
+pub layout-refused : (s : List ℕ) → (layoutRefusal s ≡ 0 → ⊥) → refusal s ≡ layoutRefusal s
+layout-refused s = of (numbers s)
+  where
+    of :
+        (o : Option (List ℕ)) →
+        ((question1 o λ ns. ask (question2 ns) 2 λ _. ask (question3 ns) 3 λ _. 0) ≡ 0 → ⊥) →
+        question1 o (numberQuestions λ j. ask (question6 j) 6 λ _. 0) ≡ (question1 o λ ns. ask (question2 ns) 2 λ _. ask (question3 ns) 3 λ _. 0)
+    of (some ns) n = two-refused (question2 ns) (question3 ns) 2 3 (jobRefusal (jobFrom ns)) n
+    of Option.none n = refl
+
+pub layout-passed : (s : List ℕ) → layoutRefusal s ≡ 0 → refusal s ≡ jobRefusal (jobOf s)
+layout-passed s = of (numbers s)
+  where
+    of :
+        (o : Option (List ℕ)) →
+        (question1 o λ ns. ask (question2 ns) 2 λ _. ask (question3 ns) 3 λ _. 0) ≡ 0 →
+        question1 o (numberQuestions λ j. ask (question6 j) 6 λ _. 0) ≡ jobRefusal (jobFrom (Option·getD o []))
+    of (some ns) z = two-passed (question2 ns) (question3 ns) 1 2 (jobRefusal (jobFrom ns)) z
+    of Option.none z = absurd (omega (arith, z))

@@ -16,7 +16,7 @@ use Rattle.number.specs.Laws.{encode-size-last, encode-size-most}
 use Rattle.frame.specs.Job.{JobLink, Job, noLink, link, fields, jobNumbers, bytesOf, jobFrame}
 use Rattle.limits.specs.Limits.{maxNodes, maxEdges, maxNumber, numberBytes, jobMost}
 use Rattle.frame.specs.Questions.{jobOf, numbers, question1, question2, question4, question5}
-use Rattle.frame.specs.Questions.{ask, numberQuestions, formRefusal, counted, listQuestions, listFormRefusal}
+use Rattle.frame.specs.Questions.{ask, numberQuestions, layoutRefusal, formRefusal, counted, listQuestions, listLayoutRefusal, listFormRefusal}
 use Rattle.frame.specs.Services.{smallNumbers, small}
 use Rattle.frame.specs.Meaning.{Small, Complete, EndsHold, MarksHold}
 use Rattle.frame.specs.Division.{small-cons, divide-complete}
@@ -93,10 +93,18 @@ pub list-as-frame : (rest : Job → ℕ) (j : Job) → small j ≡ true → list
 list-as-frame rest j h =
     rw (h, list-numbers j h, list-counted j, question3-means (jobNumbers j) .1 (list-complete j), numbers-job j)
 
+pub layout-as-frame : (j : Job) → small j ≡ true → listLayoutRefusal j ≡ layoutRefusal (jobFrame j)
+layout-as-frame j h = rw (h, list-numbers j h, list-counted j, question3-means (jobNumbers j) .1 (list-complete j))
+
 -- A question passed: its answer was "yes", and the rest passed too.
 pub ask-passed : (b : Bool) (n : ℕ) (rest : Unit {0} → ℕ) → ask b (suc n) rest ≡ 0 → (b ≡ true) × (rest tt ≡ 0)
 ask-passed true n rest h = (refl, h)
 ask-passed false n rest h = absurd (omega arith)
+
+pub layout-listed : (j : Job) → listLayoutRefusal j ≡ 0 → (small j ≡ true) × (counted j ≡ true)
+layout-listed j h =
+    let (y₁, r₁) = ask-passed (small j) 0 (λ _. ask (counted j) 2 λ _. 0) h in
+    (y₁, ask-passed (counted j) 1 (λ _. 0) r₁ .0)
 
 -- A list of links that passes questions 1 to 5.
 pub record Listed (j : Job) : Type 0 where

@@ -80,6 +80,13 @@ abbrev pub question1 : Option (List ℕ) → (List ℕ → ℕ) → ℕ
 question1 (some ns) rest = rest ns
 question1 none rest = 1
 
+-- The refusal of a frame by questions 1 to 3, which are about its layout, and of a job by questions 4 to 6.
+abbrev pub layoutRefusal : List ℕ → ℕ
+layoutRefusal s = question1 (numbers s) λ ns. ask (question2 ns) 2 λ _. ask (question3 ns) 3 λ _. 0
+
+abbrev pub jobRefusal : Job → ℕ
+jobRefusal j = ask (question4 j) 4 λ _. ask (question5 j) 5 λ _. ask (question6 j) 6 λ _. 0
+
 -- The refusal of a frame by questions 1 to 5, and by questions 1 to 6. A frame whose refusal is 0 is accepted.
 abbrev pub formRefusal : List ℕ → ℕ
 formRefusal s = question1 (numbers s) (numberQuestions λ _. 0)
@@ -100,6 +107,10 @@ counted j = leb 1 (j .nodes) && leb (j .nodes) maxNodes && leb (length (j .links
 abbrev pub listQuestions : (Job → ℕ) → Job → ℕ
 listQuestions rest j =
     ask (small j) 1 λ _. ask (counted j) 2 λ _. ask (question4 j) 4 λ _. ask (question5 j) 5 λ _. rest j
+
+-- The refusal of a list by questions 1 and 2, by questions 1 to 5, and by questions 1 to 6; question 3 is met.
+abbrev pub listLayoutRefusal : Job → ℕ
+listLayoutRefusal j = ask (small j) 1 λ _. ask (counted j) 2 λ _. 0
 
 abbrev pub listFormRefusal : Job → ℕ
 listFormRefusal j = listQuestions (λ _. 0) j

@@ -1,18 +1,21 @@
 -- When a job stands in arrays. Definitions only. Assumes nothing.
 use Prim.Native.Nat.{ℕ, _-_}
 use mathlib.Core.Path.{_≡_}
+use mathlib.Core.Bool.{true}
 use lib.ListN.{length, getD, take}
 use Rattle.graph.specs.Rank.{treeRanks}
 use Rattle.graph.specs.Paths.{rooted}
 use Rattle.frame.specs.Job.{Job, link, graphOf, treeOf, costOf}
 use Rattle.frame.specs.Arrays.{Columns, Arrays}
 use Rattle.frame.specs.Meaning.{Accepted}
-use Rattle.frame.specs.Lists.{Listed}
+use Rattle.frame.specs.Questions.{counted}
+use Rattle.frame.specs.Services.{small}
 use Rattle.paths.specs.Arrays.{paths}
 
--- A job that passes questions 1 to 5, of so many stations and links, in four arrays; zeros behind its last link.
+-- A job that passes questions 1 to 3, of so many stations and links, in four arrays; zeros behind its last link.
 pub record Stored (j : Job) (nodes edges : ℕ) (c : Columns) : Type 0 where
-  pub form : Listed j
+  pub small : small j ≡ true
+  pub counted : counted j ≡ true
   pub nodes-are : nodes ≡ j .nodes
   pub edges-are : edges ≡ length (j .links)
   pub end₁ : _≡_ {A = ℕ → ℕ} (λ e. getD (c .end₁) e 0) (λ e. link j e .end₁)

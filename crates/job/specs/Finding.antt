@@ -8,15 +8,16 @@ use lib.ListN.{length, take, drop, length-append, length-drop}
 use borrow.Author.Tests.{eq-eqb, ne-eqb, lt-ltb, le-ltb}
 use Rattle.number.specs.Number.{Bytes}
 use Rattle.frame.specs.Job.{bytesOf}
-use Rattle.frame.specs.Questions.{numbers, jobOf, formRefusal}
+use Rattle.frame.specs.Questions.{numbers, jobOf, layoutRefusal}
 use Rattle.frame.specs.Meaning.{edgeCount, Divides}
 use Rattle.frame.specs.Services.{nowhere, linkOffset, linkLength}
 use Rattle.frame.specs.Replies.{linkPlace}
 use Rattle.frame.specs.Division.{division}
-use Rattle.frame.specs.RoundTrip.{formed, job-of, length-links}
+use Rattle.frame.specs.RoundTrip.{job-of, length-links}
+use Rattle.frame.specs.Accepted.{laid}
 use Rattle.job.specs.declared.Header.{Header}
 use Rattle.codec.specs.Numbers.{skipped}
-use Rattle.job.specs.Reading.{header, headerOf}
+use Rattle.job.specs.Reading.{header, layoutHeader}
 use Rattle.codec.specs.NumberLaws.{parts-join, drop-divides, skip-numbers}
 
 -- The finder, by the tests of the code.
@@ -36,13 +37,13 @@ unfolding header
 header-form zero h s z e = (refl, ap (λ (h : Header). h .edges) e)
 header-form (suc r) h s z e = absurd (omega (arith, z, ap (λ (h : Header). h .refusal) e))
 
-pub found : (s : List ℕ) → Bytes s → (h : Header) → h .refusal ≡ 0 → h ≡ headerOf s → Found s h
+pub found : (s : List ℕ) → Bytes s → (h : Header) → h .refusal ≡ 0 → h ≡ layoutHeader s → Found s h
 found s b h z e =
-    let (r, edges) = header-form (formRefusal s) h s z e in
-    let (ns, f) = formed s b r in
-    let four : length (drop 2 ns) ≡ 4 * edgeCount ns = omega (arith, length-drop 2 ns, f .complete, f .counted .two) in
-    let count : h .edges ≡ edgeCount ns = edges ∙ ap (λ j. length (j .links)) (job-of s ns b (f .divides)) ∙ length-links (edgeCount ns) (drop 2 ns) four in
-    record { ns = ns; divides = f .divides; divided = division s ns b .1 (f .divides); edges = count; size = omega (arith, f .complete, count) }
+    let (r, edges) = header-form (layoutRefusal s) h s z e in
+    let (ns, divides, counted, complete) = laid s b r in
+    let four : length (drop 2 ns) ≡ 4 * edgeCount ns = omega (arith, length-drop 2 ns, complete, counted .two) in
+    let count : h .edges ≡ edgeCount ns = edges ∙ ap (λ j. length (j .links)) (job-of s ns b divides) ∙ length-links (edgeCount ns) (drop 2 ns) four in
+    record { ns = ns; divides = divides; divided = division s ns b .1 divides; edges = count; size = omega (arith, complete, count) }
 
 module _ (s : List ℕ) (h : Header) (z : h .refusal ≡ 0) (f : Found s h) where
   pub find-none : (e : ℕ) → h .edges ≤ e → linkPlace (h .refusal) s e ≡ nowhere

@@ -2,5 +2,5 @@
 pub mod Reading
 pub mod LoadLaws
 pub mod CountLaws
-pub mod FormLaws
+pub mod LayoutLaws
 pub mod Finding

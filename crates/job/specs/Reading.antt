@@ -8,7 +8,7 @@ use Rattle.loops.specs.Loop.{scan}
 use Rattle.loops.specs.Below.{choose}
 use Rattle.frame.specs.Job.{JobLink, Job, bytesOf}
 use Rattle.frame.specs.Meaning.{nodeCount, edgeCount}
-use Rattle.frame.specs.Questions.{jobOf, question2, question3, formRefusal}
+use Rattle.frame.specs.Questions.{jobOf, question2, question3, layoutRefusal}
 use Rattle.codec.specs.declared.Taken.{Taken}
 use Rattle.job.specs.declared.Counts.{Counts}
 use Rattle.job.specs.declared.Header.{Header}
@@ -60,10 +60,10 @@ countsOf (some ns) =
 abbrev pub refusedHeader : ℕ → Header
 refusedHeader r = record { refusal = r; nodes = 0; edges = 0 }
 
--- Questions 1 to 5: the refusal, or the two counts.
+-- A refusal, or the two counts; those by questions 1 to 3 of a frame.
 unfoldable pub header : ℕ → Job → Header
 header zero j = record { refusal = 0; nodes = j .nodes; edges = length (j .links) }
 header (suc r) j = record { refusal = suc r; nodes = 0; edges = 0 }
 
-abbrev pub headerOf : List ℕ → Header
-headerOf s = header (formRefusal s) (jobOf s)
+abbrev pub layoutHeader : List ℕ → Header
+layoutHeader s = header (layoutRefusal s) (jobOf s)

@@ -1,12 +1,11 @@
-// Reads a job frame into arrays for 256 links, or refuses it by questions 1 to 5; finds one link's four numbers in it.
+// Reads a job frame into arrays for 256 links, or refuses it by questions 1 to 3; finds one link's four numbers in it.
 ghost use mathlib.Core.Path.{_≡_};
 ghost use Prim.Native.Nat.{_+_, _*_, _≤_, _<_};
 ghost use lib.ListN.{length};
 ghost use Rattle.frame.specs.Questions.{numbers, jobOf};
 ghost use Rattle.codec.specs.Numbers.{Divided, placeOf};
-ghost use Rattle.job.specs.Reading.{refusedHeader, linksLoaded, loadLinks, refusedCounts, countsOf, headerOf, filled};
+ghost use Rattle.job.specs.Reading.{refusedHeader, linksLoaded, loadLinks, refusedCounts, countsOf, layoutHeader, filled};
 ghost use Rattle.frame.specs.Arrays.{columns};
-ghost use Rattle.links.specs.Columns.{Places};
 ghost use Rattle.frame.specs.Replies.{linkPlace};
 use codec::Part;
 use codec::number_at;
@@ -16,7 +15,6 @@ use division::count_numbers;
 use ids::Edge;
 use limits::MOST_EDGES;
 use limits::MOST_NODES;
-use links::links_refusal;
 
 // The refusal by questions 1 to 3; or 0, the two counts and the position behind them.
 pub struct Counts {
@@ -26,7 +24,7 @@ pub struct Counts {
     pub behind: usize,
 }
 
-// The refusal by questions 1 to 5; or 0 and the two counts.
+// A refusal; or 0 and the two counts.
 pub struct Header {
     pub refusal: u32,
     pub nodes: u32,
@@ -120,7 +118,7 @@ pub fn refused(refusal: u32) -> Header
     }
 }
 
-// Reads a job frame: the first refusal of questions 1 to 5; or the counts, with the links in the arrays.
+// Reads a job frame: the first refusal of questions 1 to 3; or the counts, with the links in the arrays.
 pub fn load_job(
     frame: &[u8],
     end1: &mut [u32; 256],
@@ -128,8 +126,7 @@ pub fn load_job(
     cost: &mut [u32; 256],
     mark: &mut [u32; 256],
 ) -> Header
-    requires { ⌜ Places (columns (now end1) (now end2) (now cost) (now mark)) ⌝ }
-    ensures header { λ r. ⌜ r ≡ headerOf (now (frame .entry)) ⌝ }
+    ensures header { λ r. ⌜ r ≡ layoutHeader (now (frame .entry)) ⌝ }
     ensures links { λ r. ⌜ (r .refusal ≡ 0 → columns (now (end1 .exit)) (now (end2 .exit)) (now (cost .exit)) (now (mark .exit))
         ≡ filled (jobOf (now (frame .entry)) .links) 0 (columns (now (end1 .entry)) (now (end2 .entry)) (now (cost .entry)) (now (mark .entry)))) ⌝ }
 {
@@ -140,23 +137,18 @@ pub fn load_job(
     }
     let behind = counts.behind;
     let part = &frame[behind..];
-    let nodes = counts.nodes;
     let edges = counts.edges as usize;
     read_links(part, edges, end1, end2, cost, mark);
-    let wrong = links_refusal(nodes, edges, end1, end2, mark);
-    if wrong != 0 {
-        return refused(wrong);
-    }
     Header {
         refusal: 0,
-        nodes: nodes,
+        nodes: counts.nodes,
         edges: counts.edges,
     }
 }
 
 // Where a link's bytes stand; nowhere, of length 0, if the frame is refused or has no such link.
 pub fn link_part(frame: &[u8], header: Header, edge: Edge) -> Part
-    requires { ⌜ (header .refusal ≡ 0 → header ≡ headerOf (now frame)) ⌝ }
+    requires { ⌜ (header .refusal ≡ 0 → header ≡ layoutHeader (now frame)) ⌝ }
     ensures place { λ r. ⌜ placeOf r ≡ linkPlace (header .refusal) (now (frame .entry)) (edge .0) ⌝ }
     ensures within { λ r. ⌜ r .offset + r .length ≤ length (now (frame .entry)) ⌝ }
 {

@@ -2,20 +2,20 @@
 -- written. Assumes nothing.
 use Prim.Native.Nat.{ℕ, _+_, _<_, _≤_}
 use native.Mathlib.Omega.{arith}
-use mathlib.Core.Path.{_≡_, refl, ap, ap₂, _∙_}
+use mathlib.Core.Path.{_≡_, refl, sym, ap, ap₂, _∙_}
 use mathlib.Core.List.{List}
 use lib.ListN.{length, getD, take, drop}
 use lib.Seq.{sets, sets-eq, take-at, ext-getD}
 use Rattle.loops.specs.GatherLaws.{getD-tabulate}
 use Rattle.number.specs.Number.{Bytes}
 use Rattle.frame.specs.Job.{JobLink, noLink, jobFrame}
-use Rattle.frame.specs.Questions.{jobOf, formRefusal, listFormRefusal}
+use Rattle.frame.specs.Questions.{jobOf, formRefusal, listLayoutRefusal}
 use Rattle.frame.specs.RoundTrip.{links-few, write-read}
-use Rattle.frame.specs.Lists.{read-write}
+use Rattle.frame.specs.Lists.{layout-as-frame, layout-listed, list-read}
 use Rattle.frame.specs.Arrays.{Columns, linkAt, linksAt, jobAt}
 use Rattle.links.specs.Columns.{Places}
 use Rattle.links.specs.ColumnLaws.{column, rows-length}
-use Rattle.job.specs.Reading.{filled, header, headerOf}
+use Rattle.job.specs.Reading.{filled, header, layoutHeader}
 
 -- Links put into arrays are the arrays' links.
 module _ (ls : List JobLink) (c : Columns) (p : Places c) (few : length ls ≤ 256) where
@@ -46,14 +46,15 @@ frame-again s c b z p =
 front : (vs area : List ℕ) → length vs ≤ length area → take (length vs) (sets area 0 vs) ≡ vs
 front vs area room = rw (sets-eq vs area 0 (omega arith)) (take-at vs (drop (0 + length vs) area) (length vs) refl)
 
--- Links in arrays that pass questions 1 to 5 are read back from the bytes that were written, wherever they were put.
+-- Links in arrays that pass questions 1 and 2 are read back from the bytes that were written, wherever they were put.
 pub links-again :
     (nodes edges : ℕ) (c : Columns) (area : List ℕ) →
     let j = jobAt nodes edges c in
-    listFormRefusal j ≡ 0 →
+    listLayoutRefusal j ≡ 0 →
     length (jobFrame j) ≤ length area →
-    headerOf (take (length (jobFrame j)) (sets area 0 (jobFrame j))) ≡ header 0 j
+    layoutHeader (take (length (jobFrame j)) (sets area 0 (jobFrame j))) ≡ header 0 j
 links-again nodes edges c area z room =
     let j = jobAt nodes edges c in
     let bytes : take (length (jobFrame j)) (sets area 0 (jobFrame j)) ≡ jobFrame j = front (jobFrame j) area room in
-    ap headerOf bytes ∙ ap₂ header (read-write j z .0) (read-write j z .1)
+    let y = layout-listed j z .0 in
+    ap layoutHeader bytes ∙ ap₂ header (sym (layout-as-frame j y) ∙ z) (list-read j y)

@@ -1,17 +1,16 @@
--- Questions 1 to 5 of the links of four arrays, by the tests of the code. Assumes nothing.
+-- The questions of the links of four arrays, by the tests of the code. Assumes nothing.
 use Prim.Native.Nat.{ℕ, _<_, _≤_, min}
 use native.Mathlib.Omega.{arith}
 use mathlib.Core.Path.{_≡_, sym, ap, _∙_}
 use mathlib.Core.Bool.{true, false, Bool, _&&_}
-use mathlib.Core.List.{List}
-use lib.ListN.{length, getD, List·getD-eq-default}
+use lib.ListN.{length, List·getD-eq-default}
 use borrow.Author.Tests.{le-leb, lt-leb}
 use Rattle.loops.specs.Below.{allBelow}
 use Rattle.loops.specs.GatherLaws.{getD-tabulate}
 use Rattle.frame.specs.Job.{JobLink, noLink, link}
 use Rattle.limits.specs.Limits.{maxNumber, maxNodes, maxEdges}
 use Rattle.frame.specs.Services.{smallNumbers, small}
-use Rattle.frame.specs.Questions.{counted, listFormRefusal, question4, question5}
+use Rattle.frame.specs.Questions.{ask, counted, listLayoutRefusal, question4, question5}
 use Rattle.frame.specs.Arrays.{Columns, linkAt, linksAt, jobAt}
 use Rattle.links.specs.Columns.{Places, endsApart, endsHold, marksHold, linksRefusal, linksSmall}
 use native.Mathlib.Decide.{decLt}
@@ -70,6 +69,12 @@ module _ (nodes edges : ℕ) (c : Columns) where
   unfolding question5
   list-marks = rows-all (λ (l : JobLink). leb (l .mark) 1)
 
+  -- The first refusal of the two, over arrays.
+  pub list-links :
+      let j = jobAt nodes edges c in
+      linksRefusal nodes edges (c .end₁) (c .end₂) (c .mark) ≡ (ask (question4 j) 4 λ _. ask (question5 j) 5 λ _. 0)
+  list-links = rw (list-ends, list-marks)
+
   pub list-counted : counted (jobAt nodes edges c) ≡ (leb 1 nodes && leb nodes maxNodes && leb edges maxEdges)
   unfolding counted
   list-counted = rw (rows-length edges c)
@@ -104,31 +109,31 @@ module _ (nodes edges : ℕ) (c : Columns) where
       all-small : small (jobAt nodes edges c) ≡ true
       all-small = list-small ∙ rw (le-leb nodes maxNumber n₁, le-leb edges maxNumber e₁, q)
 
-      pub check-empty : nodes < 1 → listFormRefusal (jobAt nodes edges c) ≡ 2
+      pub check-empty : nodes < 1 → listLayoutRefusal (jobAt nodes edges c) ≡ 2
       check-empty l = rw (all-small, list-counted, lt-leb 1 nodes l)
 
-      pub check-nodes : 1 ≤ nodes → maxNodes < nodes → listFormRefusal (jobAt nodes edges c) ≡ 2
+      pub check-nodes : 1 ≤ nodes → maxNodes < nodes → listLayoutRefusal (jobAt nodes edges c) ≡ 2
       check-nodes k l = rw (all-small, list-counted, le-leb 1 nodes k, lt-leb nodes maxNodes l)
 
-      pub check-edges : 1 ≤ nodes → nodes ≤ maxNodes → maxEdges < edges → listFormRefusal (jobAt nodes edges c) ≡ 2
+      pub check-edges : 1 ≤ nodes → nodes ≤ maxNodes → maxEdges < edges → listLayoutRefusal (jobAt nodes edges c) ≡ 2
       check-edges k₁ k₂ l = rw (all-small, list-counted, le-leb 1 nodes k₁, le-leb nodes maxNodes k₂, lt-leb edges maxEdges l)
 
       module _ (k₁ : 1 ≤ nodes) (k₂ : nodes ≤ maxNodes) (k₃ : edges ≤ maxEdges) where
         all-counted : counted (jobAt nodes edges c) ≡ true
         all-counted = list-counted ∙ rw (le-leb 1 nodes k₁, le-leb nodes maxNodes k₂, le-leb edges maxEdges k₃)
 
-        pub check-links : listFormRefusal (jobAt nodes edges c) ≡ linksRefusal nodes edges (c .end₁) (c .end₂) (c .mark)
-        check-links = rw (all-small, all-counted, list-ends, list-marks)
+        pub check-passed : listLayoutRefusal (jobAt nodes edges c) ≡ 0
+        check-passed = rw (all-small, all-counted)
 
-    pub check-large-nodes : maxNumber < nodes → listFormRefusal (jobAt nodes edges c) ≡ 1
+    pub check-large-nodes : maxNumber < nodes → listLayoutRefusal (jobAt nodes edges c) ≡ 1
     check-large-nodes l = rw (list-small, lt-leb nodes maxNumber l)
 
-    pub check-large-edges : nodes ≤ maxNumber → maxNumber < edges → listFormRefusal (jobAt nodes edges c) ≡ 1
+    pub check-large-edges : nodes ≤ maxNumber → maxNumber < edges → listLayoutRefusal (jobAt nodes edges c) ≡ 1
     check-large-edges k l = rw (list-small, le-leb nodes maxNumber k, lt-leb edges maxNumber l)
 
     pub check-large :
         nodes ≤ maxNumber →
         edges ≤ maxNumber →
         linksSmall (min edges 256) c ≡ false →
-        listFormRefusal (jobAt nodes edges c) ≡ 1
+        listLayoutRefusal (jobAt nodes edges c) ≡ 1
     check-large k₁ k₂ n = rw (list-small, le-leb nodes maxNumber k₁, le-leb edges maxNumber k₂, n)

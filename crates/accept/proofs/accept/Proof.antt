@@ -1,24 +1,15 @@
--- `accept::accept` meets its contract: the form is asked first, then the tree over the arrays. Assumes nothing.
-use mathlib.Core.Path.{_≡_, _∙_}
-use Rattle.number.specs.Number.{Bytes}
-use Rattle.frame.specs.Questions.{jobOf, formRefusal}
+-- `accept::accept` meets its contract: the frame is asked questions 1 to 3, then the arrays the others. Assumes nothing.
+use mathlib.Core.Path.{_∙_}
+use Rattle.frame.specs.Questions.{jobOf}
 use Rattle.frame.specs.Arrays.{columns, arrays}
 use Rattle.held.specs.Held.{Stored}
-use Rattle.accept.specs.AcceptLaws.{form-number, accept-refused, refused-nonzero, header-nodes, header-edges, tree-refused, tree-accepted}
-use Rattle.accept.specs.ArrayLaws.{stored, empty-places}
+use Rattle.accept.specs.AcceptLaws.{layout-zero, accept-refused, refused-nonzero, header-nodes, header-edges, job-refused, job-accepted}
+use Rattle.accept.specs.ArrayLaws.{stored}
 use borrow.Author.Needs.{needs}
 use Rattle.accept.proofs.accept.Statement.{statement}
 use Rattle.accept.proofs.accept.Tie as tie
 
--- the form is good: the frame holds bytes, and its job stands in the arrays
-bytes : (k : tie.Else1) → Bytes (k .before .before .before .before .before .before .before .args .frame .now)
-bytes k i = k .before .before .before .before .before .before .shared-slice-known .given i .fits
-
-good : (k : tie.Else1) → formRefusal (k .before .before .before .before .before .before .before .args .frame .now) ≡ 0
-good k =
-    form-number (k .before .before .before .before .before .before .before .args .frame .now) (k .before .load-job .result) (k .before .load-job .ensures .0) ∙
-    k .if1 .left
-
+-- questions 1 to 3 have passed: the frame's job stands in the arrays
 kept :
     (k : tie.Else1) →
     let r = k .before .load-job in
@@ -30,16 +21,18 @@ kept k =
     let a = st .args in
     let r = k .before .load-job in
     let l = r .last .1 in
+    let z = k .if1 .left in
     stored (a .frame .now) (arrays (a .end1 .now) (a .end2 .now) (a .cost .now) (a .mark .now) (a .ts .now) (a .mask .now))
-    (columns (l .0) (l .1 .0) (l .1 .1 .0) (l .1 .1 .1 .0)) (r .result .nodes) (r .result .edges) (bytes k) (good k) (st .pre)
-    (r .ensures .1 (k .if1 .left)) (header-nodes (a .frame .now) (r .result) (r .ensures .0) (bytes k) (k .if1 .left))
-    (header-edges (a .frame .now) (r .result) (r .ensures .0) (bytes k) (k .if1 .left))
+    (columns (l .0) (l .1 .0) (l .1 .1 .0) (l .1 .1 .1 .0)) (r .result .nodes) (r .result .edges)
+    (λ i. k .before .before .before .before .before .before .shared-slice-known .given i .fits) (layout-zero (a .frame .now) (r .result) (r .ensures .0) z)
+    (st .pre) (r .ensures .1 z) (header-nodes (a .frame .now) (r .result) (r .ensures .0) z)
+    (header-edges (a .frame .now) (r .result) (r .ensures .0) z)
 
-abbrev form-of : tie.After-tree-refusal → tie.Else1
-form-of t = t .before .before .before .before .before .before .before .before
+abbrev passed-of : tie.After-job-refusal → tie.Else1
+passed-of t = t .before .before .before .before .before .before .before .before
 
 load-job-requires : tie.Need-load-job-requires
-load-job-requires c κs = empty-places (c .before .before .before .before .before .pre)
+load-job-requires c κs = search needs
 
 returns : tie.Need-returns
 returns c =
@@ -50,8 +43,8 @@ returns c =
 cast-edges : tie.Need-cast-edges
 cast-edges c = search needs
 
-tree-refusal-requires : tie.Need-tree-refusal-requires
-tree-refusal-requires c κs =
+job-refusal-requires : tie.Need-job-refusal-requires
+job-refusal-requires c κs =
     let k = c .before .before .before .before .before .before .before in
     ((_, kept k), k .before .before .before .before .before .before .before .pre .ranks)
 
@@ -61,24 +54,24 @@ refused-requires c κs = search needs
 returns-2 : tie.Need-returns-2
 returns-2 c =
     let t = c .before .before in
-    let k = form-of t in
+    let k = passed-of t in
     let r = k .before .load-job in
     let a = k .before .before .before .before .before .before .before .args in
     let n = c .before .if2 .taken in (
-      c .refused .ensures ∙ tree-refused (a .frame .now) (r .result) (r .ensures .0) (bytes k) (k .if1 .left) (t .tree-refusal .result)
-          (t .tree-refusal .ensures .0 _ (kept k)) n,
-      λ z. absurd (refused-nonzero (c .refused .result) (t .tree-refusal .result) (c .refused .ensures) n z),
+      c .refused .ensures ∙ job-refused (a .frame .now) (r .result) (r .ensures .0) (k .if1 .left) (t .job-refusal .result)
+          (t .job-refusal .ensures .0 _ (kept k)) n,
+      λ z. absurd (refused-nonzero (c .refused .result) (t .job-refusal .result) (c .refused .ensures) n z),
     )
 
 returns-3 : tie.Need-returns-3
 returns-3 c =
     let t = c .before in
-    let k = form-of t in
+    let k = passed-of t in
     let r = k .before .load-job in
     let a = k .before .before .before .before .before .before .before .args in (
-      tree-accepted (a .frame .now) (r .result) (r .ensures .0) (bytes k) (k .if1 .left) (t .tree-refusal .result) (t .tree-refusal .ensures .0 _ (kept k))
+      job-accepted (a .frame .now) (r .result) (r .ensures .0) (k .if1 .left) (t .job-refusal .result) (t .job-refusal .ensures .0 _ (kept k))
           (c .if2 .left),
-      λ _. t .tree-refusal .ensures .1 _ (kept k) (c .if2 .left),
+      λ _. t .job-refusal .ensures .1 _ (kept k) (c .if2 .left),
     )
 
 pub accept-spec : {M : Type 1} → statement M
@@ -88,7 +81,7 @@ accept-spec =
     load-job-requires
     returns
     cast-edges
-    tree-refusal-requires
+    job-refusal-requires
     refused-requires
     returns-2
     returns-3)

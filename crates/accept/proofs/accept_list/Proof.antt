@@ -1,10 +1,10 @@
--- `accept::accept_list` meets its contract: the form is asked first, then the tree over the arrays. Assumes nothing.
+-- `accept::accept_list` meets its contract: questions 1 and 2 are asked first, then the others. Assumes nothing.
 use mathlib.Core.Path.{_≡_, sym, _∙_}
-use Rattle.frame.specs.Questions.{listFormRefusal}
+use Rattle.frame.specs.Questions.{listLayoutRefusal}
 use Rattle.frame.specs.Job.{Job}
 use Rattle.frame.specs.Arrays.{Columns, columns, jobAt}
 use Rattle.held.specs.Held.{Stored}
-use Rattle.accept.specs.ListLaws.{list-form-refused, list-tree, list-stored}
+use Rattle.accept.specs.ListLaws.{list-layout-refused, list-layout-passed, list-stored}
 use borrow.Author.Needs.{needs}
 use Rattle.accept.proofs.accept_list.Statement.{statement}
 use Rattle.accept.proofs.accept_list.Tie as tie
@@ -16,8 +16,8 @@ columns-of t = let a = t .args in columns (a .end1 .now) (a .end2 .now) (a .cost
 abbrev job-of : tie.Start → Job
 job-of t = jobAt (t .args .nodes) (t .args .edges) (columns-of t)
 
--- questions 1 to 5 have passed: the job of the arrays stands in them
-good : (k : tie.Else1) → listFormRefusal (job-of (k .before .before)) ≡ 0
+-- questions 1 and 2 have passed: the job of the arrays stands in them
+good : (k : tie.Else1) → listLayoutRefusal (job-of (k .before .before)) ≡ 0
 good k = sym (k .before .check-list .ensures) ∙ k .if1 .left
 
 kept : (k : tie.Else1) → let t = k .before .before in Stored (job-of t) (t .args .nodes) (t .args .edges) (columns-of t)
@@ -31,17 +31,17 @@ check-list-requires c κs = search needs
 returns : tie.Need-returns
 returns c =
     let e = c .before .check-list .ensures in (
-      e ∙ sym (list-form-refused (job-of (c .before .before)) (λ z. c .if1 .taken (e ∙ z))),
+      e ∙ sym (list-layout-refused (job-of (c .before .before)) (λ z. c .if1 .taken (e ∙ z))),
       λ z. absurd (c .if1 .taken z),
     )
 
-tree-refusal-requires : tie.Need-tree-refusal-requires
-tree-refusal-requires c κs = let k = c .before .before in ((_, kept k), k .before .before .pre .1)
+job-refusal-requires : tie.Need-job-refusal-requires
+job-refusal-requires c κs = let k = c .before .before in ((_, kept k), k .before .before .pre .1)
 
 returns-2 : tie.Need-returns-2
 returns-2 c =
     let k = c .before .before .before in
-    (c .tree-refusal .ensures .0 _ (kept k) ∙ sym (list-tree _ (good k)), λ z. c .tree-refusal .ensures .1 _ (kept k) z)
+    (c .job-refusal .ensures .0 _ (kept k) ∙ sym (list-layout-passed _ (good k)), λ z. c .job-refusal .ensures .1 _ (kept k) z)
 
 pub accept-list-spec : {M : Type 1} → statement M
-accept-list-spec = tie.close (tie.spec check-list-requires returns tree-refusal-requires returns-2)
+accept-list-spec = tie.close (tie.spec check-list-requires returns job-refusal-requires returns-2)

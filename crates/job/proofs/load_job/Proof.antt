@@ -1,17 +1,15 @@
--- `job::load_job` meets its contract: the questions in turn, each by the function that puts it. Assumes nothing.
+-- `job::load_job` meets its contract: the counts are asked first, then the links are read. Assumes nothing.
 use Prim.Native.Nat.{_-_}
 use native.Mathlib.Omega.{arith}
 use mathlib.Core.Path.{_≡_, refl, sym, ap, _∙_}
 use borrow.Author.Needs.{needs}
 use lib.ListN.{length, take, drop, length-drop}
 use lib.Seq.{take-all}
-use Rattle.frame.specs.Questions.{jobOf, formRefusal}
+use Rattle.frame.specs.Questions.{jobOf}
 use Rattle.job.specs.declared.Header.{Header}
-use Rattle.frame.specs.Arrays.{Columns, columns}
+use Rattle.frame.specs.Arrays.{columns}
 use Rattle.job.specs.Reading.{LinksLoaded, linksLoaded, filled}
-use Rattle.links.specs.Columns.{linksRefusal}
-use Rattle.job.specs.FormLaws.{CountsPassed, counts-passed, counts-refused, links-left, links-read}
-use Rattle.job.specs.FormLaws.{links-asked, form-passed, form-refused}
+use Rattle.job.specs.LayoutLaws.{CountsPassed, counts-passed, counts-refused, counts-read, links-left, links-read}
 use Rattle.job.proofs.load_job.Statement.{statement}
 use Rattle.job.proofs.load_job.Tie as tie
 
@@ -46,21 +44,6 @@ filled-in k =
     (k .read-links .ensures ∙ links-read (a .frame .now) (e .before .read-counts .result) (passing e) _ (behind-counts e)
     (linksLoaded 0 (columns (a .end1 .now) (a .end2 .now) (a .cost .now) (a .mark .now))) refl)
 
--- questions 4 and 5, as they were put over the arrays
-answer :
-    (k : tie.After-links-refusal) →
-    let r = k .before .before .before .before in
-    k .links-refusal .result ≡ formRefusal (r .before .before .before .before .before .before .before .before .before .before .args .frame .now)
-answer k =
-    let r = k .before .before .before .before in
-    let e = r .before .before .before .before .before .before .before in
-    let t = e .before .before .before in
-    let a = t .args in
-    let c = e .before .read-counts .result in
-    k .links-refusal .ensures ∙
-    ap (λ (l : Columns). linksRefusal (c .nodes) (c .edges) (l .end₁) (l .end₂) (l .mark)) (filled-in r) ∙
-    links-asked (a .frame .now) c (passing e) (columns (a .end1 .now) (a .end2 .now) (a .cost .now) (a .mark .now)) (t .pre)
-
 read-counts-requires : tie.Need-read-counts-requires
 read-counts-requires c κs = search needs
 
@@ -90,29 +73,10 @@ read-links-requires c κs =
     let e = c .before .before .before .before .before .before in
     (passing e .limit, links-left _ _ (passing e) _ (behind-counts e))
 
-links-refusal-requires : tie.Need-links-refusal-requires
-links-refusal-requires c κs = passing (c .before .before .before .before .before .before .before .before .before .before) .limit
-
-refused-requires-2 : tie.Need-refused-requires-2
-refused-requires-2 c κs = search needs
-
 returns-2 : tie.Need-returns-2
 returns-2 c =
-    let k = c .before .before in
-    let e = k .before .before .before .before .before .before .before .before .before .before .before in
-    let n = c .before .if2 .taken in (
-      c .refused2 .ensures ∙ form-refused (e .before .before .before .args .frame .now) (k .links-refusal .result) (answer k) n,
-      λ z. absurd (n (sym (ap (λ (r : Header). r .refusal) (c .refused2 .ensures)) ∙ z)),
-    )
-
-returns-3 : tie.Need-returns-3
-returns-3 c =
-    let k = c .before in
-    let r = k .before .before .before .before in
-    let e = r .before .before .before .before .before .before .before in (
-      form-passed (e .before .before .before .args .frame .now) (e .before .read-counts .result) (passing e) (sym (answer k) ∙ c .if2 .left),
-      λ z. filled-in r,
-    )
+    let e = c .before .before .before .before .before .before .before in
+    (counts-read (e .before .before .before .args .frame .now) (e .before .read-counts .result) (passing e), λ z. filled-in c)
 
 pub load-job-spec : {M : Type 1} → statement M
 load-job-spec =
@@ -126,7 +90,4 @@ load-job-spec =
     part-part-end
     cast-edges
     read-links-requires
-    links-refusal-requires
-    refused-requires-2
-    returns-2
-    returns-3)
+    returns-2)

@@ -100,7 +100,7 @@ returns-6 c =
     let n = k .before .before .before .before in
     c .refused-counts6 .ensures ∙ sym (counts-wrong _ _ (counted n) (bytes k) (k .before .before .if1 .left) (k .before .number-at .result)
     (k .number-at2 .result) (k .before .number-at .ensures) (k .number-at2 .ensures) (c .before .before .before .before .before .before .before .if2 .left)
-    (c .before .before .before .before .before .if3 .left) (c .before .before .before .if4 .left) (c .before .if5 .taken))
+    (c .before .before .before .before .before .if3 .left) (c .before .before .before .if4 .left) (λ q. omega (arith, c .before .if5 .taken, q)))
 
 returns-7 : tie.Need-returns-7
 returns-7 c =

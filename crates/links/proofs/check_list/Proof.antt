@@ -7,7 +7,7 @@ use borrow.Author.Tests.{not-true, not-false}
 use Rattle.frame.specs.Arrays.{Columns, columns}
 use Rattle.links.specs.Columns.{linksSmall}
 use Rattle.links.specs.ListLaws.{check-large-nodes, check-large-edges, check-large, check-empty, check-nodes}
-use Rattle.links.specs.ListLaws.{check-edges, check-links}
+use Rattle.links.specs.ListLaws.{check-edges, check-passed}
 use borrow.Author.Needs.{needs}
 use Rattle.links.proofs.check_list.Statement.{statement}
 use Rattle.links.proofs.check_list.Tie as tie
@@ -74,17 +74,14 @@ returns-6 c =
     (c .before .before .before .before .before .before .before .if1 .left) (c .before .before .before .before .before .before .if2 .left)
     (c .before .before .if4 .left) (c .before .if5 .left) (omega (arith, c .if6 .taken)))
 
-links-refusal-requires : tie.Need-links-refusal-requires
-links-refusal-requires c κs = search needs
-
 returns-7 : tie.Need-returns-7
 returns-7 c =
-    let t = c .before .before .before .before .before .before .before .before .before in
+    let t = c .before .before .before .before .before .before .before .before in
     let a = t .args in
-    c .links-refusal .ensures ∙ sym (check-links (a .nodes) (a .edges) (held t) (t .pre)
-    (sym (small-answer (c .before .before .before .before .before)) ∙ not-false _ (c .before .before .before .before .if3 .left))
-    (c .before .before .before .before .before .before .before .before .if1 .left) (c .before .before .before .before .before .before .before .if2 .left)
-    (c .before .before .before .if4 .left) (c .before .before .if5 .left) (c .before .if6 .left))
+    sym (check-passed (a .nodes) (a .edges) (held t) (t .pre)
+    (sym (small-answer (c .before .before .before .before)) ∙ not-false _ (c .before .before .before .if3 .left))
+    (c .before .before .before .before .before .before .before .if1 .left) (c .before .before .before .before .before .before .if2 .left)
+    (c .before .before .if4 .left) (c .before .if5 .left) (omega (arith, c .if6 .left)))
 
 pub check-list-spec : {M : Type 1} → statement M
 check-list-spec =
@@ -98,5 +95,4 @@ check-list-spec =
     returns-4
     returns-5
     returns-6
-    links-refusal-requires
     returns-7)

@@ -1,31 +1,25 @@
--- Questions 1 to 5 by the steps of the code: the counts, the links in their arrays, the two tests over arrays.
--- Assumes nothing.
-use Prim.Native.Nat.{ℕ, zero, suc, _*_, _≤_}
+-- Questions 1 to 3 by the steps of the code: the counts, and then the links in their arrays. Assumes nothing.
+use Prim.Native.Nat.{ℕ, suc, _*_, _≤_}
 use native.Mathlib.Omega.{arith}
-use mathlib.Core.Path.{_≡_, refl, sym, ap, ap₂, _∙_}
+use mathlib.Core.Path.{_≡_, refl, sym, ap, _∙_}
 use mathlib.Core.Logic.{_⊎_, inl, inr}
 use mathlib.Core.Bool.{true, false}
 use mathlib.Core.List.{List}
 use mathlib.Core.Option.{Option, some, none}
-use lib.Dec.{leb}
-use lib.ListN.{length, getD, take, drop, length-append, length-drop}
-use lib.Seq.{sets}
-use Rattle.loops.specs.TestLaws.{truth, all-same}
+use lib.ListN.{length, take, drop, length-append, length-drop}
+use Rattle.loops.specs.TestLaws.{truth}
 use Rattle.number.specs.Number.{Bytes}
-use Rattle.frame.specs.Job.{JobLink, Job, link, bytesOf}
-use Rattle.frame.specs.Questions.{numbers, jobOf, ask, question2, question3, question4, question5, formRefusal}
+use Rattle.frame.specs.Job.{JobLink, Job, bytesOf}
+use Rattle.frame.specs.Questions.{numbers, jobOf, question2, question3, layoutRefusal}
 use Rattle.frame.specs.Meaning.{linksOf, nodeCount, edgeCount, jobFrom, Divides}
 use Rattle.frame.specs.Division.{division}
 use Rattle.frame.specs.Form.{question2-means, question3-means}
 use Rattle.frame.specs.RoundTrip.{length-links}
 use Rattle.job.specs.declared.Counts.{Counts}
 use Rattle.codec.specs.Numbers.{Divided}
-use Rattle.job.specs.Reading.{LinksLoaded, linksLoaded, loadLinks, filled, countsOf, refusedCounts, header, headerOf}
-use Rattle.frame.specs.Arrays.{Columns}
-use Rattle.links.specs.Columns.{firsts, seconds, marks, endsApart, endsHold, marksHold, linksRefusal, Places}
+use Rattle.job.specs.Reading.{LinksLoaded, linksLoaded, loadLinks, filled, countsOf, refusedCounts, header, layoutHeader}
 use Rattle.job.specs.LoadLaws.{load-all}
 use Rattle.codec.specs.NumberLaws.{parts-join, drop-divides}
-use Rattle.links.specs.ColumnLaws.{column}
 
 -- Questions 1 to 3 passed: what is known of the counts k.
 pub record CountsPassed (s : List ℕ) (k : Counts) : Type 0 where
@@ -37,11 +31,11 @@ pub record CountsPassed (s : List ℕ) (k : Counts) : Type 0 where
   pub four : length (drop 2 ns) ≡ 4 * k .edges
   pub within : k .behind ≤ length s
   pub rest : Divides (drop (k .behind) s) (drop 2 ns)
-  pub form : formRefusal s ≡ ask (question4 (jobOf s)) 4 λ _. ask (question5 (jobOf s)) 5 λ _. 0
+  pub layout : layoutRefusal s ≡ 0
 
 -- Either one of questions 1 to 3 refuses, or the frame divides into numbers that pass 2 and 3.
 data Case (s : List ℕ) : Type 0 where
-  refused : (r : ℕ) → countsOf (numbers s) ≡ refusedCounts (suc r) → formRefusal s ≡ suc r → Case s
+  refused : (r : ℕ) → countsOf (numbers s) ≡ refusedCounts (suc r) → layoutRefusal s ≡ suc r → Case s
   passed : (ns : List ℕ) → numbers s ≡ some ns → question2 ns ≡ true → question3 ns ≡ true → Case s
 
 case-of : (s : List ℕ) (o : Option (List ℕ)) → numbers s ≡ o → Case s
@@ -70,7 +64,7 @@ passed-of s h k e z (passed ns d q₂ q₃) =
       four = four ∙ ap (λ (m : ℕ). 4 * m) (sym edges);
       within = omega (arith, behind, length-append (bytesOf (take 2 ns)) (bytesOf (drop 2 ns)), ap length (parts-join s ns 2 whole));
       rest = rw behind (drop-divides s ns 2 whole);
-      form = rw (d, q₂, q₃);
+      layout = rw (d, q₂, q₃);
     }
   where
     whole : Divides s ns
@@ -99,7 +93,7 @@ refused-of :
     k ≡ countsOf (numbers s) →
     (k .refusal ≡ 0 → ⊥) →
     Case s →
-    record { refusal = k .refusal; nodes = 0; edges = 0 } ≡ headerOf s
+    record { refusal = k .refusal; nodes = 0; edges = 0 } ≡ layoutHeader s
 unfolding header countsOf
 refused-of s k e z (refused r c f) =
     ap (λ (k : Counts). record { refusal = k .refusal; nodes = 0; edges = 0 }) (e ∙ c) ∙ ap (λ (r : ℕ). header r (jobOf s)) (sym f)
@@ -111,7 +105,7 @@ pub counts-refused :
     (s : List ℕ) (k : Counts) →
     k ≡ countsOf (numbers s) →
     (k .refusal ≡ 0 → ⊥) →
-    record { refusal = k .refusal; nodes = 0; edges = 0 } ≡ headerOf s
+    record { refusal = k .refusal; nodes = 0; edges = 0 } ≡ layoutHeader s
 counts-refused s k e z = refused-of s k e z (case-of s (numbers s) refl)
 
 module _ (s : List ℕ) (k : Counts) (p : CountsPassed s k) where
@@ -130,52 +124,8 @@ module _ (s : List ℕ) (k : Counts) (p : CountsPassed s k) where
       load-all part (k .edges) 0 (drop 2 (p .ns)) l (p .four) (omega arith) (rw (z, e) (p .rest)) ∙
       ap (λ (ls : List JobLink). linksLoaded (length part) (filled ls 0 (l .links))) (sym (p .links))
 
-  -- Questions 4 and 5 over arrays are those of the job.
-  ends-read :
-      (as₁ as₂ : List ℕ) →
-      length as₁ ≡ 256 →
-      length as₂ ≡ 256 →
-      endsHold (k .nodes) (k .edges) (sets as₁ 0 (firsts (jobOf s .links))) (sets as₂ 0 (seconds (jobOf s .links))) ≡ question4 (jobOf s)
-  unfolding question4
-  ends-read as₁ as₂ h₁ h₂ =
-      rw (← p .nodes, ← p .edges)
-      (all-same (length ls) (λ e. endsApart n (getD (sets as₁ 0 (firsts ls)) e 0) (getD (sets as₂ 0 (seconds ls)) e 0))
-      (λ e. endsApart n (link j e .end₁) (link j e .end₂))
-      λ e l. ap₂ (endsApart n) (column (λ (l : JobLink). l .end₁) refl ls as₁ e (omega (arith, p .edges, p .limit)) l)
-      (column (λ (l : JobLink). l .end₂) refl ls as₂ e (omega (arith, p .edges, p .limit)) l))
-    where
-      j : Job
-      j = jobOf s
-
-      n : ℕ
-      n = j .nodes
-
-      ls : List JobLink
-      ls = j .links
-
-  marks-read : (as₄ : List ℕ) → length as₄ ≡ 256 → marksHold (k .edges) (sets as₄ 0 (marks (jobOf s .links))) ≡ question5 (jobOf s)
-  unfolding question5
-  marks-read as₄ h =
-      rw (← p .edges)
-      (all-same (length ls) (λ e. leb (getD (sets as₄ 0 (marks ls)) e 0) 1) (λ e. leb (link (jobOf s) e .mark) 1)
-      λ e l. ap (λ (m : ℕ). leb m 1) (column (λ (l : JobLink). l .mark) refl ls as₄ e (omega (arith, p .edges, p .limit)) l))
-    where
-      ls : List JobLink
-      ls = jobOf s .links
-
-  -- The first refusal of the two is that of the frame.
-  pub links-asked :
-      (c : Columns) → Places c →
-      let d = filled (jobOf s .links) 0 c in linksRefusal (k .nodes) (k .edges) (d .end₁) (d .end₂) (d .mark) ≡ formRefusal s
-  links-asked c h = rw (ends-read (c .end₁) (c .end₂) (h .end₁) (h .end₂), marks-read (c .mark) (h .mark)) (sym (p .form))
-
   -- What the reader then says.
-  pub form-passed : formRefusal s ≡ 0 → record { refusal = 0; nodes = k .nodes; edges = k .edges } ≡ headerOf s
+  pub counts-read : record { refusal = 0; nodes = k .nodes; edges = k .edges } ≡ layoutHeader s
   unfolding header
-  form-passed z =
-      (λ i. record { refusal = 0; nodes = sym (p .nodes) i; edges = sym (p .edges) i }) ∙ sym (ap (λ (r : ℕ). header r (jobOf s)) z)
-
-pub form-refused : (s : List ℕ) (r : ℕ) → r ≡ formRefusal s → (r ≡ 0 → ⊥) → record { refusal = r; nodes = 0; edges = 0 } ≡ headerOf s
-unfolding header
-form-refused s zero e n = absurd (n refl)
-form-refused s (suc r) e n = ap (λ (k : ℕ). header k (jobOf s)) e
+  counts-read =
+      (λ i. record { refusal = 0; nodes = sym (p .nodes) i; edges = sym (p .edges) i }) ∙ sym (ap (λ (r : ℕ). header r (jobOf s)) (p .layout))
