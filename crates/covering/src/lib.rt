@@ -75,7 +75,8 @@ pub fn fill_rows(
     requires ends { ⌜ Ends spares (now ss) (now end1) (now end2) ⌝ }
     requires empty { ⌜ now rows ≡ replicate 256 0 ⌝ }
     ensures members { λ r. ⌜ ((t s : ℕ) → t < trees → s < 256 → inRow (now (rows .exit)) t s
-        ≡ (ltb s spares && undercuts (now (cost .entry)) (now (ts .entry)) (now (ss .entry)) (now (end1 .entry)) (now (end2 .entry)) (now (mask .entry)) t s)) ⌝ }
+        ≡ (ltb s spares && undercuts (now (cost .entry)) (now (ts .entry)) (now (ss .entry)) (now (end1 .entry)) (now (end2 .entry))
+        (now (mask .entry)) t s)) ⌝ }
     ensures length { λ r. ⌜ length (now (rows .exit)) ≡ 256 ⌝ }
 {
     let mut limit = trees;

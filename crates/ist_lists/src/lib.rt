@@ -1,5 +1,5 @@
-// The functions for C that judge a list of links or find a cost, by its length, a test and a copy, which crate `ist` makes of a
-// lent list: each calls one service and carries its promise, with the verdict in plain numbers.
+// The functions for C that judge a list of links or find a cost, by the copy that crate `ist` takes of a lent list: each calls
+// one service and carries its promise, with the verdict in plain numbers.
 ghost use Rattle.judging.specs.Verdicts.{TreeJudged, AnswerJudged};
 ghost use Rattle.accept.specs.ListJobs.{listJob};
 ghost use Rattle.listed.specs.ListServices.{ListJudged, ListCostLocated};

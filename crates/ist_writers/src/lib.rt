@@ -1,5 +1,5 @@
-// The functions for C on a list of links that write into an area, by its length, a test and a copy, which crate `ist` makes of a
-// lent list: each calls one service and carries its promise, with the reply in plain numbers.
+// The functions for C on a list of links that write into an area, by the copy that crate `ist` takes of a lent list: each calls
+// one service and carries its promise, with the reply in plain numbers.
 ghost use Rattle.accept.specs.ListJobs.{listJob};
 ghost use Rattle.listed.specs.ListServices.{ListWritten, ListAnswered};
 ghost use Rattle.codes.specs.Exports.{Of, Replied};

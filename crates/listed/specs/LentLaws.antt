@@ -5,7 +5,6 @@ use native.Mathlib.Omega.{arith}
 use mathlib.Core.Path.{_≡_, sym, ap, subst, _∙_}
 use mathlib.Core.Bool.{Bool}
 use mathlib.Core.List.{List}
-use lib.ListN.{length}
 use Rattle.loops.specs.TestLaws.{clash}
 use Rattle.number.specs.Number.{Bytes}
 use Rattle.records.specs.declared.Link.{Link}

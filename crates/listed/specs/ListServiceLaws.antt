@@ -4,9 +4,9 @@ use native.Mathlib.Decide.{ℕ-discrete}
 use native.Mathlib.Omega.{arith}
 use mathlib.Core.Path.{_≡_, refl, sym, ap, subst, _∙_}
 use mathlib.Core.Logic.{_≢_, ⊎-elim}
-use mathlib.Core.Bool.{Bool, true, false}
+use mathlib.Core.Bool.{true, false}
 use mathlib.Core.List.{List}
-use lib.ListN.{length, take}
+use lib.ListN.{take}
 use Rattle.loops.specs.TestLaws.{truth, clash}
 use Rattle.records.specs.declared.ListCopy.{ListCopy}
 use Rattle.frame.specs.Job.{Job, jobNumbers, jobFrame}

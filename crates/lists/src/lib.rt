@@ -1,5 +1,5 @@
-// Services on lists of links that judge and find. The list comes as its length, the word that its numbers are small and a copy
-// of its first 256 links: so much a function over a lent list of records hands on. Each service promises its outcome for
+// Services on lists of links that judge and find. The list comes as what a function over a lent list of records hands on: its
+// length, the word that its numbers are small and its first 256 links. Each service promises its outcome for
 // whatever it is given, be it of a list or not; links of the copy behind the length do not count.
 ghost use mathlib.Core.Path.{_≡_};
 ghost use Rattle.judging.specs.Verdicts.{TreeJudged, AnswerJudged};

@@ -1,7 +1,7 @@
 -- Laws of links lent as a list: what the copy holds, one more link copied or tested, and a list tested whole.
 -- Assumes nothing.
 use Prim.Native.Nat.{ℕ, zero, suc, _+_, _<_, _≤_, min}
-use native.Mathlib.Nat.{sub-zero, zero-sub, suc-sub-suc, min-zero, zero-min, suc-min-suc}
+use native.Mathlib.Nat.{sub-zero, zero-sub, suc-sub-suc, zero-min, suc-min-suc}
 use native.Mathlib.Omega.{arith}
 use mathlib.Core.Path.{_≡_, refl, sym, ap, _∙_}
 use mathlib.Core.Bool.{true, false, _&&_}

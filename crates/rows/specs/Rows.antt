@@ -47,5 +47,7 @@ rows =
     []
 
 pub rows-hold : map (λ (r : Row). resultOf (r .job)) rows ≡ map (λ (r : Row). r .result) rows
-unfolding linksOf question2 question3 question4 question5 question6 flatMap encode extend decode front divideUpTo scan sum allBelow first last pick gather insert sorted grow expandAll judge follow trySpares tryTree augment labelTree mateSearch labelSpare labelFrom join pairAt solve xor
+unfolding linksOf question2 question3 question4 question5 question6 flatMap encode extend decode front divideUpTo scan sum allBelow
+    first last pick gather insert sorted grow expandAll judge follow trySpares tryTree augment labelTree mateSearch labelSpare labelFrom
+    join pairAt solve xor
 rows-hold = refl

@@ -16,7 +16,8 @@ use Rattle.job.proofs.read_links.Tie as tie
 abbrev Inv-loop : tie.InvT-loop
 Inv-loop part edges end1₀ end2₀ cost₀ mark₀ at₀ e₀ end1 end2 cost mark at e =
     (e ≤ edges) ×
-    (scan (loadLink part) (edges - e) e (linksLoaded at (columns end1 end2 cost mark)) ≡ loadLinks part edges (linksLoaded 0 (columns end1₀ end2₀ cost₀ mark₀))) ×
+    (scan (loadLink part) (edges - e) e (linksLoaded at (columns end1 end2 cost mark))
+    ≡ loadLinks part edges (linksLoaded 0 (columns end1₀ end2₀ cost₀ mark₀))) ×
     Divided part at (4 * (edges - e))
 
 abbrev μ-loop : tie.MeasureT-loop

@@ -40,7 +40,7 @@ use denote.Laws.{Is, shows}
 use denote.Plain.{bool-tells, bool-makes, bool-lawful}
 use denote.Builtin.{bool}
 use denote.Memory.{shares}
-use denote.Array.{Array, array-lawful}
+use denote.Array.{Array}
 use denote.Index.{row, place-is, elem-out, elem-back, elem-put, looks-slice, shuts-slice}
 use denote.Ref.{RefT, now}
 use denote.Signature.{plain}
@@ -246,7 +246,8 @@ module _ {M : Type 1} (𝓤 : URA M) (H : Heap 𝓤) (A : Atoms 𝓤) (W : Given
         more =
             assigns ! (bin ! (reads ! (from ! (stop !)) (look ! 24 refl)) (reads ! (from ! (stop !)) (look ! 29 refl)) tt) (from ! (stop !))
             (init ! 16 refl (tt, tt)) $
-            rewrite ! 16 (λ (t : Bool). ‵ (fat fullShare tyBool k₀ 0 (vbool t))) (lt-ltb (i .0) n l) refl $ stays ! (reads ! (from ! (stop !)) (look ! 16 refl)) $
+            rewrite ! 16 (λ (t : Bool). ‵ (fat fullShare tyBool k₀ 0 (vbool t))) (lt-ltb (i .0) n l) refl $
+            stays ! (reads ! (from ! (stop !)) (look ! 16 refl)) $
             -- the link is copied out of the list
             assigns ! (bin ! (reads ! (from ! (stop !)) (look ! 24 refl)) (lit ! tt) (record { fits = place-fits })) (from ! (stop !))
             (init ! 14 refl (tt, record { fits = place-fits })) $

@@ -52,7 +52,16 @@ abbrev spare-callees : ℕ → try-spare-lts.Claims
 spare-callees t = (remove-reads.Asked, remove-reads.Learnt, has-reads.Asked, has-reads.Learnt, try-tree-below t, try-tree.Post)
 
 abbrev tree-callees : ℕ → try-tree-lts.Claims
-tree-callees t = (goal-covers-reads.Asked, goal-covers-reads.Learnt, with-reads.Asked, with-reads.Learnt, next-reads.Asked, next-reads.Learnt, try-spare-below t, try-spare.Post)
+tree-callees t = (
+  goal-covers-reads.Asked,
+  goal-covers-reads.Learnt,
+  with-reads.Asked,
+  with-reads.Learnt,
+  next-reads.Asked,
+  next-reads.Learnt,
+  try-spare-below t,
+  try-spare.Post,
+)
 
 try-spare-remove-requires : (t : ℕ) → try-spare-lts.Need-remove-requires (spare-callees t) (try-spare-at t) try-spare.Post
 try-spare-remove-requires t c κs = (omega (arith, c .before .pre .1 .0), c .before .pre .1 .2 .live-length)
@@ -158,7 +167,8 @@ try-tree-Inv-loop t goal rows mates₀ tree-seen₀ live₀ mates tree-seen live
 abbrev try-tree-μ-loop : try-tree-lts.MeasureT-loop
 try-tree-μ-loop t goal rows mates₀ tree-seen₀ live₀ mates tree-seen live = count 256 (member live)
 
-try-tree-goal-covers-requires : (t : ℕ) → try-tree-lts.Need-goal-covers-requires (tree-callees t) (try-tree-at t) try-tree.Post try-tree-Inv-loop try-tree-μ-loop
+try-tree-goal-covers-requires :
+    (t : ℕ) → try-tree-lts.Need-goal-covers-requires (tree-callees t) (try-tree-at t) try-tree.Post try-tree-Inv-loop try-tree-μ-loop
 try-tree-goal-covers-requires t c κs = c .pre .1 .1 .rank
 
 try-tree-add-mates : (t : ℕ) → try-tree-lts.Need-add-mates (tree-callees t) (try-tree-at t) try-tree.Post try-tree-Inv-loop try-tree-μ-loop
@@ -190,7 +200,9 @@ try-tree-with-requires : (t : ℕ) → try-tree-lts.Need-with-requires (tree-cal
 try-tree-with-requires t c κs = omega (arith, c .before .before .before .pre .1 .1 .rank)
 
 -- Tree rank t is entered before the loop.
-try-tree-entered : (t : ℕ) (f : try-tree-lts.After-with (tree-callees t) (try-tree-at t) try-tree.Post try-tree-Inv-loop try-tree-μ-loop) → let a = f .before .before .before .before .args in
+try-tree-entered :
+    (t : ℕ) (f : try-tree-lts.After-with (tree-callees t) (try-tree-at t) try-tree.Post try-tree-Inv-loop try-tree-μ-loop) →
+    let a = f .before .before .before .before .args in
     Entered (a .t .0) (a .goal .0) (a .rows .now) (a .tree-seen .now) (f .with .result)
 try-tree-entered t f =
     record {
