@@ -32,7 +32,8 @@ use Rattle.answer_read.specs.declared.Contents.{Contents}
 use Rattle.codec.specs.Held.{pairsAt}
 use Rattle.answer_read.specs.Reading.{contents, few}
 use Rattle.answer_read.specs.AnswerLaws.{found-answer, missed-answer}
-use Rattle.pairing.specs.Pairs.{pairHeld, pairsHeld, pairRises, fall}
+use Rattle.weighing.specs.Weighing.{pairRises, fall}
+use Rattle.pairing.specs.Pairs.{pairHeld, pairsHeld}
 use Rattle.held.specs.Held.{Held}
 use Rattle.held.specs.HeldLaws.{graph-stored, tree-stored, few-nodes, tree-count, paths-held}
 

@@ -53,8 +53,8 @@ pub fn certify(
     ) {
         return false;
     }
-    if !pairing::pairs_rise(count, &pairs) {
+    if !weighing::pairs_rise(count, &pairs) {
         return false;
     }
-    pairing::pairs_weight(count, &pairs, cost) == steps
+    weighing::pairs_weight(count, &pairs, cost) == steps
 }

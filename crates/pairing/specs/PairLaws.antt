@@ -1,4 +1,4 @@
--- Laws of the tests of pairs, in the shape of the code: the search for a rank, one pair, the order of two. Assumes nothing.
+-- Laws of the tests of pairs, in the shape of the code: the search for a rank, one pair, all of them. Assumes nothing.
 use Prim.Native.Nat.{ℕ, _+_, _≤_, _<_}
 use native.Mathlib.Decide.{ℕ-discrete}
 use native.Mathlib.Omega.{arith}
@@ -14,7 +14,8 @@ use Rattle.loops.specs.TestLaws.{and-first, and-second, all-at}
 use Rattle.paths.specs.Arrays.{arrayTree, across}
 use Rattle.frame.specs.Arrays.{Arrays}
 use Rattle.frame.specs.Answers.{rankOf, pairFrom}
-use Rattle.pairing.specs.Pairs.{pairHeld, pairsHeld, pairLater, Falling}
+use Rattle.weighing.specs.Weighing.{Falling}
+use Rattle.pairing.specs.Pairs.{pairHeld, pairsHeld}
 
 -- ---- the rank of a tree edge
 
@@ -125,15 +126,3 @@ held-falling edges p a count ps l few h =
       spare = λ i b. omega (arith, held-spare edges p a (pairFrom ps i .tree) (pairFrom ps i .spare) (all-at count _ h i b));
       falls = λ i b. omega (arith, held-falls edges p a (pairFrom ps i .tree) (pairFrom ps i .spare) (all-at count _ h i b));
     }
-
--- ---- two pairs
-
-module _ (ps : List ℕ) (i k : ℕ) where
-  pub later-low : pairFrom ps i .tree ≤ pairFrom ps k .tree → pairLater ps i k ≡ false
-  later-low l = rw (le-ltb (pairFrom ps k .tree) (pairFrom ps i .tree) l)
-
-  pub later-same : pairFrom ps k .tree < pairFrom ps i .tree → pairFrom ps k .spare ≡ pairFrom ps i .spare → pairLater ps i k ≡ false
-  later-same l e = rw (lt-ltb (pairFrom ps k .tree) (pairFrom ps i .tree) l, eq-eqb (pairFrom ps k .spare) (pairFrom ps i .spare) e)
-
-  pub later-holds : pairFrom ps k .tree < pairFrom ps i .tree → (pairFrom ps k .spare ≡ pairFrom ps i .spare → ⊥) → pairLater ps i k ≡ true
-  later-holds l d = rw (lt-ltb (pairFrom ps k .tree) (pairFrom ps i .tree) l, ne-eqb (pairFrom ps k .spare) (pairFrom ps i .spare) d)

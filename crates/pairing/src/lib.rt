@@ -1,12 +1,11 @@
-// The tests of the pairs that an answer lists, over a job held in arrays (specs/Pairs.antt).
+// The test of the pairs that an answer lists, each by itself, over a job held in arrays (specs/Pairs.antt).
 ghost use mathlib.Core.Path.{_≡_};
-ghost use Prim.Native.Nat.{_-_, _≤_, _<_};
-ghost use lib.ListN.{length, getD, take};
-ghost use Rattle.loops.specs.Below.{allBelow, sum};
+ghost use Prim.Native.Nat.{_≤_};
+ghost use lib.ListN.{length, take};
 ghost use Rattle.cheapest.specs.Judge.{Judged};
 ghost use Rattle.frame.specs.Arrays.{arrays};
 ghost use Rattle.frame.specs.Answers.{rankOf};
-ghost use Rattle.pairing.specs.Pairs.{pairHeld, pairsHeld, pairRises, fall, Falling};
+ghost use Rattle.pairing.specs.Pairs.{pairHeld, pairsHeld};
 use ids::Edge;
 use ids::Node;
 use ids::TreeRank;
@@ -109,63 +108,4 @@ pub fn pairs_hold(
         i += 1;
     }
     true
-}
-
-// Every pair before pair i has a lower tree edge and another spare.
-fn pair_rises(i: usize, pairs: &[u32; 128]) -> bool
-    requires { ⌜ i < 64 ⌝ }
-    ensures { λ r. ⌜ r ≡ pairRises (now (pairs .entry)) i ⌝ }
-{
-    let t = pairs[2 * i];
-    let s = pairs[2 * i + 1];
-    let mut k: usize = 0;
-    while k < i {
-        if t <= pairs[2 * k] {
-            return false;
-        }
-        if pairs[2 * k + 1] == s {
-            return false;
-        }
-        k += 1;
-    }
-    true
-}
-
-// So for every pair.
-pub fn pairs_rise(count: usize, pairs: &[u32; 128]) -> bool
-    requires { ⌜ count ≤ 64 ⌝ }
-    ensures { λ r. ⌜ r ≡ allBelow count (pairRises (now (pairs .entry))) ⌝ }
-{
-    let mut i: usize = 0;
-    while i < count {
-        if !pair_rises(i, pairs) {
-            return false;
-        }
-        i += 1;
-    }
-    true
-}
-
-// Old tree cost less old spare cost.
-fn pair_fall(t: Edge, s: Edge, cost: &[u32; 256]) -> u32
-    requires { ⌜ (t .0 < 256) × (s .0 < 256) × (getD (now cost) (s .0) 0 ≤ getD (now cost) (t .0) 0) ⌝ }
-    ensures { λ r. ⌜ r ≡ getD (now (cost .entry)) (t .0) 0 - getD (now (cost .entry)) (s .0) 0 ⌝ }
-{
-    cost[t.0 as usize] - cost[s.0 as usize]
-}
-
-// The sum of it over all pairs.
-pub fn pairs_weight(count: usize, pairs: &[u32; 128], cost: &[u32; 256]) -> u64
-    requires { ⌜ Falling count (now pairs) (now cost) ⌝ }
-    ensures { λ r. ⌜ r ≡ sum count (fall (now (pairs .entry)) (now (cost .entry))) ⌝ }
-{
-    let mut total: u64 = 0;
-    let mut i: usize = 0;
-    while i < count {
-        let t = pairs[2 * i];
-        let s = pairs[2 * i + 1];
-        total += pair_fall(Edge(t), Edge(s), cost) as u64;
-        i += 1;
-    }
-    total
 }

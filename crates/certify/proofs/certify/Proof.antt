@@ -15,7 +15,8 @@ use Rattle.optimum.specs.Solve.{gap}
 use Rattle.paths.specs.Arrays.{arrayGraph, arrayTree, arrayCost}
 use Rattle.frame.specs.Job.{Job}
 use Rattle.frame.specs.Answers.{judgeAnswer}
-use Rattle.pairing.specs.Pairs.{pairsHeld, pairRises, fall}
+use Rattle.weighing.specs.Weighing.{pairRises, fall}
+use Rattle.pairing.specs.Pairs.{pairsHeld}
 use Rattle.frame.specs.Arrays.{Arrays, arrays}
 use Rattle.held.specs.Held.{Held}
 use Rattle.held.specs.HeldLaws.{some-node, few-links, paths-held}

@@ -1,11 +1,11 @@
--- `pairing::pairs_weight` meets its contract. The loop's invariant: the sum over the pairs passed. Assumes nothing.
-use Rattle.pairing.proofs.pairs_weight.Statement.{statement}
-use Rattle.pairing.proofs.pairs_weight.Tie as tie
+-- `weighing::pairs_weight` meets its contract. The loop's invariant: the sum over the pairs passed. Assumes nothing.
+use Rattle.weighing.proofs.pairs_weight.Statement.{statement}
+use Rattle.weighing.proofs.pairs_weight.Tie as tie
 use Prim.Native.Nat.{_-_, _*_, _≤_}
 use native.Mathlib.Omega.{arith}
 use mathlib.Core.Path.{_≡_, refl}
 use Rattle.loops.specs.Below.{sum}
-use Rattle.pairing.specs.Pairs.{fall}
+use Rattle.weighing.specs.Weighing.{fall}
 use Rattle.loops.specs.SumLaws.{sum-more}
 
 abbrev Inv-loop : tie.InvT-loop

@@ -1,6 +1,6 @@
--- `pairing::pairs_rise` meets its contract. The loop's invariant: the pairs passed rise. Assumes nothing.
-use Rattle.pairing.proofs.pairs_rise.Statement.{statement}
-use Rattle.pairing.proofs.pairs_rise.Tie as tie
+-- `weighing::pairs_rise` meets its contract. The loop's invariant: the pairs passed rise. Assumes nothing.
+use Rattle.weighing.proofs.pairs_rise.Statement.{statement}
+use Rattle.weighing.proofs.pairs_rise.Tie as tie
 use Prim.Native.Nat.{_-_, _≤_}
 use native.Mathlib.Omega.{arith}
 use mathlib.Core.Path.{_≡_, refl, sym, _∙_}
@@ -8,7 +8,7 @@ use mathlib.Core.Bool.{true}
 use borrow.Author.Tests.{not-true, not-false}
 use Rattle.loops.specs.Below.{allBelow}
 use Rattle.loops.specs.TestLaws.{all-miss, all-more}
-use Rattle.pairing.specs.Pairs.{pairRises}
+use Rattle.weighing.specs.Weighing.{pairRises}
 
 abbrev Inv-loop : tie.InvT-loop
 Inv-loop count pairs i₀ i = (i ≤ count) × (allBelow i (pairRises pairs) ≡ true)

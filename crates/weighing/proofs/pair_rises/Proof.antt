@@ -1,14 +1,14 @@
--- `pairing::pair_rises` meets its contract. The loop's invariant: the pairs passed stand before pair i. Assumes nothing.
-use Rattle.pairing.proofs.pair_rises.Statement.{statement}
-use Rattle.pairing.proofs.pair_rises.Tie as tie
+-- `weighing::pair_rises` meets its contract. The loop's invariant: the pairs passed stand before pair i. Assumes nothing.
+use Rattle.weighing.proofs.pair_rises.Statement.{statement}
+use Rattle.weighing.proofs.pair_rises.Tie as tie
 use Prim.Native.Nat.{_-_, _≤_}
 use native.Mathlib.Omega.{arith}
 use mathlib.Core.Path.{_≡_, refl, sym}
 use mathlib.Core.Bool.{true}
 use Rattle.loops.specs.Below.{allBelow}
 use Rattle.loops.specs.TestLaws.{all-miss, all-more}
-use Rattle.pairing.specs.Pairs.{pairLater}
-use Rattle.pairing.specs.PairLaws.{later-low, later-same, later-holds}
+use Rattle.weighing.specs.Weighing.{pairLater}
+use Rattle.weighing.specs.WeighingLaws.{later-low, later-same, later-holds}
 
 abbrev Inv-loop : tie.InvT-loop
 Inv-loop i pairs t s k₀ k = (k ≤ i) × (allBelow k (pairLater pairs i) ≡ true)
