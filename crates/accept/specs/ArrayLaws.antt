@@ -20,7 +20,8 @@ use Rattle.frame.specs.Questions.{ask, jobOf, question4, question5, question6, 
 use Rattle.frame.specs.Form.{question4-means, question5-means, two-refused}
 use Rattle.frame.specs.Lists.{Listed, ask-passed, small-job, counted-limits}
 use Rattle.frame.specs.Accepted.{laid-job, listed-accepted, cost-small}
-use Rattle.paths.specs.Arrays.{arrayGraph, RankedEnds, Walked}
+use Rattle.adjacency.specs.Words.{RankedEnds}
+use Rattle.paths.specs.Arrays.{arrayGraph, Walked}
 use Rattle.ranks.specs.Keys.{treeList, SmallCosts}
 use Rattle.job.specs.Reading.{filled}
 use Rattle.links.specs.Columns.{firsts, seconds, costs, marks, linksRefusal, Places}

@@ -1,10 +1,6 @@
--- A job frame or a list of links accepted into arrays, and laws about it.
+-- A job frame accepted into arrays, and laws about it; the job of a list of records.
 pub mod Accepting
 pub mod AcceptLaws
 pub mod ArrayLaws
 pub mod AskedLaws
-pub mod Lists
-pub mod ListLaws
 pub mod ListJobs
-pub mod ListAcceptLaws
-pub mod ListJobLaws

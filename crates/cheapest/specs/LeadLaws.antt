@@ -18,7 +18,7 @@ use Rattle.bits.specs.Bit.{bit}
 use Rattle.bits.specs.BitLaws.{bit-zero}
 use Rattle.bits.specs.ChangeLaws.{or-test}
 use Rattle.graph.specs.Rank.{costAt}
-use Rattle.paths.specs.AdjacencyLaws.{passed}
+use Rattle.adjacency.specs.AdjacencyLaws.{passed}
 use Rattle.paths.specs.WordLaws.{lowest-set}
 use Rattle.cheapest.specs.Judge.{notDearer, mayLead, FallAlong}
 

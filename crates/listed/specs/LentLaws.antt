@@ -16,8 +16,9 @@ use Rattle.frame.specs.Answers.{answerOf}
 use Rattle.frame.specs.AnswerMeaning.{answerFrame}
 use Rattle.frame.specs.Services.{Place, nowhere, written}
 use Rattle.codec.specs.declared.Reply.{Reply}
-use Rattle.accept.specs.ListJobs.{listJob, Given}
-use Rattle.accept.specs.ListJobLaws.{lent}
+use Rattle.accept.specs.ListJobs.{listJob}
+use Rattle.accept_lists.specs.Given.{Given}
+use Rattle.accept_lists.specs.ListJobLaws.{lent}
 use Rattle.frame.specs.Accepted.{numbers-bytes}
 use Rattle.judging.specs.declared.Verdict.{Verdict}
 use Rattle.judging.specs.declared.Verdict.the-variants.{Refused}

@@ -23,9 +23,10 @@ use Rattle.codec.specs.WritingLaws.{put-refused}
 use Rattle.accept.specs.Accepting.{Asked}
 use Rattle.job.specs.Reading.{refusedHeader}
 use Rattle.accept.specs.AcceptLaws.{accepted-number, accepted-few}
-use Rattle.accept.specs.ListJobs.{listJob, givenRefusal, Given, ListAccepted}
+use Rattle.accept.specs.ListJobs.{listJob}
+use Rattle.accept_lists.specs.Given.{givenRefusal, Given, ListAccepted}
 use Rattle.held.specs.HeldLaws.{stored-job}
-use Rattle.accept.specs.ListAcceptLaws.{asked-large}
+use Rattle.accept_lists.specs.ListAcceptLaws.{asked-large}
 use Rattle.frame.specs.Accepted.{numbers-bytes}
 use Rattle.judging.specs.declared.Verdict.{Verdict}
 use Rattle.judging.specs.declared.Verdict.the-variants.{Refused}

@@ -16,7 +16,8 @@ use Rattle.loops.specs.TestLaws.{and-first}
 use Rattle.bits.specs.Bit.{bit}
 use Rattle.bits.specs.BitLaws.{bit-zero}
 use Rattle.graph.specs.Paths.{Rooted, grow, tryAt, expand}
-use Rattle.paths.specs.Arrays.{arrayGraph, triedRank, only, triedWord, RankedEnds, Adjacency, Named}
+use Rattle.adjacency.specs.Words.{RankedEnds, Adjacency}
+use Rattle.paths.specs.Arrays.{arrayGraph, triedRank, only, triedWord, Named}
 use Rattle.paths.specs.GrowLaws.{tried-few}
 use Rattle.paths.specs.WordLaws.{lowest-below, lowest-set, lowest-before, word-part, taken-out, word-higher}
 

@@ -2,6 +2,5 @@
 pub mod Arrays
 pub mod GrowLaws
 pub mod WordLaws
-pub mod AdjacencyLaws
 pub mod ExpandLaws
 pub mod RootLaws

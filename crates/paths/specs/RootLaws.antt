@@ -23,9 +23,10 @@ use Rattle.bits.specs.ChangeLaws.{added}
 use Rattle.graph.specs.Graph.{Graph}
 use Rattle.graph.specs.Paths.{Rooted, root, attach, grow, touches, tryAt, expand, waits, expandAll, rooted, isTree, coversRank}
 use Rattle.paths.specs.declared.Front.{Front}
-use Rattle.paths.specs.Arrays.{arrayGraph, paths, across, held, RankedEnds, Adjacency, Walked, triedWord}
+use Rattle.adjacency.specs.Words.{RankedEnds, Adjacency}
+use Rattle.paths.specs.Arrays.{arrayGraph, paths, across, held, Walked, triedWord}
 use Rattle.paths.specs.GrowLaws.{tried-keeps, tried-few}
-use Rattle.paths.specs.AdjacencyLaws.{none-held}
+use Rattle.adjacency.specs.AdjacencyLaws.{none-held}
 use Rattle.paths.specs.WordLaws.{lowest-set, lowest-before}
 use Rattle.paths.specs.ExpandLaws.{word-expands}
 

@@ -1,9 +1,9 @@
 // Services on lists of links that write into an area: the list's job frame, or the answer to it. What is given of a list, and
 // what is promised of it, is as in crate `lists`.
 ghost use Rattle.answering.specs.Answering.{Untouched};
-ghost use Rattle.accept.specs.ListJobs.{Given};
+ghost use Rattle.accept_lists.specs.Given.{Given};
 ghost use Rattle.listed.specs.ListServices.{ListWritten, ListAnswered};
-use accept::accept_links;
+use accept_lists::accept_links;
 use answering::answer_held;
 use codec::Reply;
 use records::ListCopy;

@@ -2,8 +2,8 @@
 -- from the start. The measure is how many rounds are left. Assumes nothing.
 use Prim.Native.Nat.{_<_}
 use native.Mathlib.Omega.{arith}
-use Rattle.paths.specs.Arrays.{Adjacency}
-use Rattle.paths.specs.AdjacencyLaws.{adjacency-start}
+use Rattle.adjacency.specs.Words.{Adjacency}
+use Rattle.adjacency.specs.AdjacencyLaws.{adjacency-start}
 use Rattle.paths.specs.WordLaws.{lowest-below}
 use Rattle.paths.specs.ExpandLaws.{word-named}
 use Rattle.paths.specs.RootLaws.{Rounds, rounds-start, rounds-last, rounds-more, rounds-end, ranked-most}

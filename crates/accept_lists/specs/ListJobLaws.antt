@@ -23,10 +23,11 @@ use Rattle.frame.specs.Questions.{ask, refusal, counted, listRefusal}
 use Rattle.frame.specs.Services.{smallNumbers, small}
 use Rattle.frame.specs.Arrays.{Columns, Arrays, linkAt, linksAt, jobAt}
 use Rattle.links.specs.ColumnLaws.{rows-length, zeros, length-zeros, zero-at}
 use Rattle.accept.specs.Accepting.{Empty}
-use Rattle.accept.specs.Lists.{ListHeld}
-use Rattle.accept.specs.ListAcceptLaws.{frame-number}
-use Rattle.accept.specs.ListJobs.{jobLink, listJob, countRefusal, Given}
+use Rattle.accept_lists.specs.Lists.{ListHeld}
+use Rattle.accept_lists.specs.ListAcceptLaws.{frame-number}
+use Rattle.accept.specs.ListJobs.{jobLink, listJob}
+use Rattle.accept_lists.specs.Given.{countRefusal, Given}
 
 -- Question 1: the numbers of the job's links are small if the list's are.
 abbrev linksTest : Job → Bool

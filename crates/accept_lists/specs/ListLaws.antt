@@ -12,7 +12,7 @@ use Rattle.frame.specs.Services.{small}
 use Rattle.frame.specs.Lists.{layout-listed}
 use Rattle.frame.specs.Arrays.{Columns, linkAt, linksAt, jobAt}
 use Rattle.links.specs.ColumnLaws.{rows-length}
-use Rattle.accept.specs.Lists.{ListHeld}
+use Rattle.accept_lists.specs.Lists.{ListHeld}
 use Rattle.held.specs.Held.{Stored}
 
 -- A refusal by questions 1 and 2 is that of the list; without one it is that of the job.

@@ -12,9 +12,9 @@ use Rattle.frame.specs.Accepted.{numbers-bytes}
 use Rattle.held.specs.Held.{Held}
 use Rattle.job.specs.declared.Header.{Header}
 use Rattle.job.specs.Reading.{header, refusedHeader}
 use Rattle.accept.specs.Accepting.{treeRefusal}
 use Rattle.accept.specs.AcceptLaws.{refused-header}
-use Rattle.accept.specs.ListJobs.{ListAccepted}
+use Rattle.accept_lists.specs.Given.{ListAccepted}
 
 -- The first refusal of a list whose numbers are small is its frame's; of any other it is 1.
 pub frame-number : (j : Job) → small j ≡ true → refusal (jobFrame j) ≡ listRefusal j

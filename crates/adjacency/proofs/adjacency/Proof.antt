@@ -1,12 +1,12 @@
--- `paths::adjacency` meets its contract. The loop's invariant: the words hold the ranks that are passed. The measure is how
+-- `adjacency::adjacency` meets its contract. The loop's invariant: the words hold the ranks that are passed. The measure is how
 -- many are left. Assumes nothing.
 use Prim.Native.Nat.{_-_, _<_, _≤_}
 use native.Mathlib.Omega.{arith}
 use mathlib.Core.Path.{_≡_}
-use Rattle.paths.specs.Arrays.{Adjacency}
-use Rattle.paths.specs.AdjacencyLaws.{adjacency-turn}
-use Rattle.paths.proofs.adjacency.Statement.{statement}
-use Rattle.paths.proofs.adjacency.Tie as tie
+use Rattle.adjacency.specs.Words.{Adjacency}
+use Rattle.adjacency.specs.AdjacencyLaws.{adjacency-turn}
+use Rattle.adjacency.proofs.adjacency.Statement.{statement}
+use Rattle.adjacency.proofs.adjacency.Tie as tie
 
 abbrev Inv-loop : tie.InvT-loop
 Inv-loop ranks count end1 end2 adj₀ k₀ adj k = (k ≤ count) × Adjacency k ranks end1 end2 adj

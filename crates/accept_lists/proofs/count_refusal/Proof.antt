@@ -1,9 +1,9 @@
--- `accept::count_refusal` meets its contract: one law for each of its tests. Assumes nothing.
+-- `accept_lists::count_refusal` meets its contract: one law for each of its tests. Assumes nothing.
 use borrow.Author.Tests.{not-true, not-false}
 use native.Mathlib.Omega.{arith}
-use Rattle.accept.specs.ListJobLaws.{nodes-large, count-large, word-large, count-many, count-passed}
-use Rattle.accept.proofs.count_refusal.Statement.{statement}
-use Rattle.accept.proofs.count_refusal.Tie as tie
+use Rattle.accept_lists.specs.ListJobLaws.{nodes-large, count-large, word-large, count-many, count-passed}
+use Rattle.accept_lists.proofs.count_refusal.Statement.{statement}
+use Rattle.accept_lists.proofs.count_refusal.Tie as tie
 
 returns : tie.Need-returns
 returns c = let a = c .before .args in nodes-large (a .nodes) (a .count) (a .small) (c .if1 .taken)

@@ -1,13 +1,13 @@
--- `accept::accept_list` meets its contract: questions 1 and 2 are asked first, then the others. Assumes nothing.
+-- `accept_lists::accept_list` meets its contract: questions 1 and 2 are asked first, then the others. Assumes nothing.
 use mathlib.Core.Path.{_≡_, sym, _∙_}
 use Rattle.frame.specs.Questions.{listLayoutRefusal}
 use Rattle.frame.specs.Job.{Job}
 use Rattle.frame.specs.Arrays.{Columns, columns, jobAt}
 use Rattle.held.specs.Held.{Stored}
-use Rattle.accept.specs.ListLaws.{list-layout-refused, list-layout-passed, list-stored}
+use Rattle.accept_lists.specs.ListLaws.{list-layout-refused, list-layout-passed, list-stored}
 use borrow.Author.Needs.{needs}
-use Rattle.accept.proofs.accept_list.Statement.{statement}
-use Rattle.accept.proofs.accept_list.Tie as tie
+use Rattle.accept_lists.proofs.accept_list.Statement.{statement}
+use Rattle.accept_lists.proofs.accept_list.Tie as tie
 
 -- the links in their arrays
 abbrev columns-of : tie.Start → Columns

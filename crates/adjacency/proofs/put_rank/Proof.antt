@@ -1,9 +1,9 @@
--- `paths::put_rank` meets its contract. Assumes nothing.
+-- `adjacency::put_rank` meets its contract. Assumes nothing.
 use native.Mathlib.Omega.{arith}
-use Rattle.paths.specs.AdjacencyLaws.{rank-put}
+use Rattle.adjacency.specs.AdjacencyLaws.{rank-put}
 use borrow.Author.Needs.{needs}
-use Rattle.paths.proofs.put_rank.Statement.{statement}
-use Rattle.paths.proofs.put_rank.Tie as tie
+use Rattle.adjacency.proofs.put_rank.Statement.{statement}
+use Rattle.adjacency.proofs.put_rank.Tie as tie
 
 cast-at : tie.Need-cast-at
 cast-at c = search needs

@@ -11,7 +11,7 @@ use lib.Seq.{getD-set-same, getD-set-other}
 use borrow.Author.Tests.{eq-eqb, ne-eqb, lt-ltb, le-ltb}
 use Rattle.bits.specs.Bit.{bit}
 use Rattle.bits.specs.BitLaws.{bit-zero}
-use Rattle.paths.specs.Arrays.{endOf, RankPut, Adjacency}
+use Rattle.adjacency.specs.Words.{endOf, RankPut, Adjacency}
 
 -- Rank k put into the word at place u.
 pub rank-put :

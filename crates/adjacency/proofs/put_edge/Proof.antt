@@ -1,8 +1,8 @@
--- `paths::put_edge` meets its contract. Assumes nothing.
-use Rattle.paths.specs.AdjacencyLaws.{rank-put-both}
+-- `adjacency::put_edge` meets its contract. Assumes nothing.
+use Rattle.adjacency.specs.AdjacencyLaws.{rank-put-both}
 use borrow.Author.Needs.{needs}
-use Rattle.paths.proofs.put_edge.Statement.{statement}
-use Rattle.paths.proofs.put_edge.Tie as tie
+use Rattle.adjacency.proofs.put_edge.Statement.{statement}
+use Rattle.adjacency.proofs.put_edge.Tie as tie
 
 cast-i : tie.Need-cast-i
 cast-i c = search needs

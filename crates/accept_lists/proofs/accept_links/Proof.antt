@@ -8,15 +8,16 @@ use Rattle.frame.specs.Questions.{listRefusal}
 use Rattle.frame.specs.Arrays.{Columns, columns, Arrays, arrays, jobAt}
 use Rattle.held.specs.Held.{Held}
 use Rattle.job.specs.Reading.{refusedHeader}
-use Rattle.accept.specs.Lists.{ListHeld}
+use Rattle.accept_lists.specs.Lists.{ListHeld}
 use Rattle.accept.specs.AcceptLaws.{refused-nonzero}
 use Rattle.accept.specs.ArrayLaws.{empty-places}
-use Rattle.accept.specs.ListJobs.{listJob, countRefusal}
-use Rattle.accept.specs.ListJobLaws.{list-count-few, columns-held, columns-job}
-use Rattle.accept.specs.ListAcceptLaws.{list-refused, list-held}
+use Rattle.accept.specs.ListJobs.{listJob}
+use Rattle.accept_lists.specs.Given.{countRefusal}
+use Rattle.accept_lists.specs.ListJobLaws.{list-count-few, columns-held, columns-job}
+use Rattle.accept_lists.specs.ListAcceptLaws.{list-refused, list-held}
 use borrow.Author.Needs.{needs}
-use Rattle.accept.proofs.accept_links.Statement.{statement}
-use Rattle.accept.proofs.accept_links.Tie as tie
+use Rattle.accept_lists.proofs.accept_links.Statement.{statement}
+use Rattle.accept_lists.proofs.accept_links.Tie as tie
 
 -- the word and the counts refuse nothing
 passed : (k : tie.Else1) → let a = k .before .before .args in countRefusal (a .nodes) (a .list .count) (a .list .small) ≡ 0

@@ -1,0 +1,3 @@
+-- The words of the tree edges.
+pub mod Words
+pub mod AdjacencyLaws
