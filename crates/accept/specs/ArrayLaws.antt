@@ -1,6 +1,7 @@
 -- A job that was read into arrays of zeros: the arrays are its graph, its tree and its costs, and question 6 over them is
 -- the job's. Assumes nothing.
 use Prim.Native.Nat.{ℕ, suc, _+_, _-_, _<_, _≤_}
+use native.Mathlib.Decide.{ℕ-discrete}
 use native.Mathlib.Omega.{arith}
 use mathlib.Core.Path.{_≡_, refl, sym, ap, ap₂, subst, _∙_}
 use mathlib.Core.Bool.{Bool, true, false}
@@ -10,6 +11,7 @@ use lib.ListN.{length, getD, take}
 use lib.Seq.{sets, getD-take}
 use borrow.Author.Tests.{ne-eqb}
 use Rattle.number.specs.Number.{Bytes}
+use Rattle.loops.specs.TestLaws.{clash}
 use Rattle.graph.specs.CountLaws.{count-below}
 use Rattle.graph.specs.Rank.{sorted, members, treeRanks}
 use Rattle.graph.specs.RankLaws.{tree-lists}
@@ -133,9 +135,6 @@ module _ {j : Job} {n m : ℕ} {c : Columns} (k : Stored j n m c) where
     unfolding question6
     question-wrong w = rw (← ts-count, ne-eqb (suc count) (j .nodes) (λ q. w (omega (arith, q, k .nodes-are))))
 
-    pub count-wrong : (count + 1 ≡ n → ⊥) → 6 ≡ jobRefusal j
-    count-wrong w = let six : 6 ≡ treeRefusal j = rw (question-wrong w) in six ∙ tree-asked f
-
     module _ (right : count + 1 ≡ n) where
       rank-edge : (i : ℕ) → i < count → getD ts i 0 < length (j .links)
       rank-edge i l =
@@ -153,32 +152,35 @@ module _ {j : Job} {n m : ℕ} {c : Columns} (k : Stored j n m c) where
             second = λ i l. omega (arith, ap (λ (f : ℕ → ℕ). f (getD ts i 0)) (k .end₂), f .ends .second (getD ts i 0) (rank-edge i l), k .nodes-are);
           }
 
-      -- Whether they join all stations.
-      module _ (r : Bool) (said : (edges : ℕ) → r ≡ isTree (arrayGraph n edges (c .end₁) (c .end₂)) (take count ts)) where
-        tree-answer : r ≡ question6 j
-        unfolding question6
-        tree-answer = said m ∙ ap₂ isTree (graph-stored k) ts-are
+    -- Whether they join all stations.
+    module _ (r : Bool) (said : (edges : ℕ) → r ≡ isTree (arrayGraph n edges (c .end₁) (c .end₂)) (take count ts)) where
+      tree-answer : r ≡ question6 j
+      unfolding question6
+      tree-answer = said m ∙ ap₂ isTree (graph-stored k) ts-are
 
-        pub tree-wrong : r ≡ false → 6 ≡ jobRefusal j
-        tree-wrong w =
-            let no : question6 j ≡ false = sym tree-answer ∙ w in
-            let six : 6 ≡ treeRefusal j = rw no in
-            six ∙ tree-asked f
+      pub tree-wrong : r ≡ false → 6 ≡ jobRefusal j
+      tree-wrong w =
+          let no : question6 j ≡ false = sym tree-answer ∙ w in
+          let six : 6 ≡ treeRefusal j = rw no in
+          six ∙ tree-asked f
 
-        module _ (y : r ≡ true) where
-          tree-yes : question6 j ≡ true
-          tree-yes = sym tree-answer ∙ y
+      module _ (y : r ≡ true) where
+        tree-yes : question6 j ≡ true
+        tree-yes = sym tree-answer ∙ y
 
-          pub tree-right : 0 ≡ jobRefusal j
-          tree-right = let none : 0 ≡ treeRefusal j = rw tree-yes in none ∙ tree-asked f
+        count-right : count + 1 ≡ n
+        count-right = elim (ℕ-discrete (count + 1) n) [ yes e ↦ e | no d ↦ clash tree-yes (question-wrong d) ]
 
-          pub tree-held : (mask : List ℕ) → Walked n count ts (c .end₁) (c .end₂) n mask → Held j n m (record { links = c; ranks = ts; mask = mask })
-          tree-held mask w =
-              let last : n - 1 ≡ count = omega (arith, right) in
-              record {
-                stored = k;
-                accepted = listed-accepted j f tree-yes;
-                ranks = ap (λ (i : ℕ). take i ts) last ∙ ts-are;
-                places = places;
-                paths = w .paths m ∙ (λ i. rooted (graph-stored k i) (ts-are i) .path);
-              }
+        pub tree-right : 0 ≡ jobRefusal j
+        tree-right = let none : 0 ≡ treeRefusal j = rw tree-yes in none ∙ tree-asked f
+
+        pub tree-held : (mask : List ℕ) → Walked n count ts (c .end₁) (c .end₂) n mask → Held j n m (record { links = c; ranks = ts; mask = mask })
+        tree-held mask w =
+            let last : n - 1 ≡ count = omega (arith, count-right) in
+            record {
+              stored = k;
+              accepted = listed-accepted j f tree-yes;
+              ranks = ap (λ (i : ℕ). take i ts) last ∙ ts-are;
+              places = places;
+              paths = w .paths m ∙ (λ i. rooted (graph-stored k i) (ts-are i) .path);
+            }

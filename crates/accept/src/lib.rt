@@ -7,7 +7,7 @@ ghost use Rattle.frame.specs.Arrays.{columns, arrays};
 ghost use Rattle.held.specs.Held.{Stored, Held};
 ghost use Rattle.accept.specs.Accepting.{Empty, acceptedHeader};
 use job::Header;
-use job::refused;
+use job::refused_header;
 
 // The first refusal of questions 4 to 6 for a job in arrays that has passed the others; or 0, and then the tree ranks and
 // paths are found.
@@ -33,9 +33,6 @@ pub fn job_refusal(
         return wrong;
     }
     let count = ranks::tree_ranks(edges, cost, mark, ts);
-    if count + 1 != nodes as usize {
-        return 6;
-    }
     if !paths::question6(nodes, ts, count, end1, end2, mask) {
         return 6;
     }
@@ -65,7 +62,7 @@ pub fn accept(
     let edges = header.edges as usize;
     let wrong = job_refusal(header.nodes, edges, end1, end2, cost, mark, ts, mask);
     if wrong != 0 {
-        return refused(wrong);
+        return refused_header(wrong);
     }
     header
 }

@@ -10,7 +10,7 @@ ghost use Rattle.accept_lists.specs.Lists.{ListHeld};
 ghost use Rattle.accept_lists.specs.Given.{countRefusal, Given, ListAccepted};
 use accept::job_refusal;
 use job::Header;
-use job::refused;
+use job::refused_header;
 use limits::MOST_COUNT;
 use limits::MOST_LENGTH;
 use limits::MOST_NUMBER;
@@ -80,13 +80,13 @@ pub fn accept_links(
     let count = list.count;
     let early = count_refusal(nodes, count, list.small);
     if early != 0 {
-        return refused(early);
+        return refused_header(early);
     }
     let links = list.links;
     records::spread(count, links, end1, end2, cost, mark);
     let refusal = accept_list(nodes, count, end1, end2, cost, mark, ts, mask);
     if refusal != 0 {
-        return refused(refusal);
+        return refused_header(refusal);
     }
     Header {
         refusal: 0,

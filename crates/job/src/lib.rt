@@ -108,7 +108,7 @@ pub fn read_counts(frame: &[u8]) -> Counts
 }
 
 // A refusal has no counts.
-pub fn refused(refusal: u32) -> Header
+pub fn refused_header(refusal: u32) -> Header
     ensures { λ r. ⌜ r ≡ refusedHeader refusal ⌝ }
 {
     Header {
@@ -133,7 +133,7 @@ pub fn load_job(
     let counts = read_counts(frame);
     let refusal = counts.refusal;
     if refusal != 0 {
-        return refused(refusal);
+        return refused_header(refusal);
     }
     let behind = counts.behind;
     let part = &frame[behind..];

@@ -213,14 +213,14 @@ ranked-most nodes count ranks as₁ as₂ h =
 
 -- ---- question 6
 
-module _ (nodes count : ℕ) (ranks as₁ as₂ : List ℕ) (ranked : RankedEnds nodes count ranks as₁ as₂) (edges : ℕ) where
+module _ (nodes count : ℕ) (ranks as₁ as₂ : List ℕ) (within : count ≤ length ranks) (edges : ℕ) where
   pub tree-missed : (count + 1 ≡ nodes → ⊥) → isTree (arrayGraph nodes edges as₁ as₂) (take count ranks) ≡ false
-  tree-missed d = rw (length-take-le count ranks (ranked .within), ne-eqb (suc count) nodes (λ e. d (omega arith)))
+  tree-missed d = rw (length-take-le count ranks within, ne-eqb (suc count) nodes (λ e. d (omega arith)))
 
   pub tree-found :
       (r : ℕ) (mask : List ℕ) → count + 1 ≡ nodes → Walked nodes count ranks as₁ as₂ r mask
       → eqb r nodes ≡ isTree (arrayGraph nodes edges as₁ as₂) (take count ranks)
-  tree-found r mask e h = rw (length-take-le count ranks (ranked .within), eq-eqb (suc count) nodes (omega arith), h .found edges)
+  tree-found r mask e h = rw (length-take-le count ranks within, eq-eqb (suc count) nodes (omega arith), h .found edges)
 
 -- ---- the ranks on the paths
 

@@ -1,7 +1,7 @@
 // Tree paths from node 0 in masks, and question 6, over links held in arrays (specs/Arrays.antt).
 ghost use mathlib.Core.Path.{_≡_};
 ghost use mathlib.Core.Bool.{true};
-ghost use Prim.Native.Nat.{ℕ, _<_, _≤_};
+ghost use Prim.Native.Nat.{ℕ, _+_, _<_, _≤_};
 ghost use lib.ListN.{length, take};
 ghost use Rattle.bits.specs.Bit.{bit};
 ghost use Rattle.graph.specs.Paths.{attach, isTree};
@@ -124,7 +124,8 @@ pub fn question6(
     end2: &[u32; 256],
     mask: &mut [u64; 64],
 ) -> bool
-    requires { ⌜ RankedEnds nodes count (now ranks) (now end1) (now end2) ⌝ }
+    requires places { ⌜ (count ≤ 256) × (count ≤ length (now ranks)) ⌝ }
+    requires ends { ⌜ (count + 1 ≡ nodes → RankedEnds nodes count (now ranks) (now end1) (now end2)) ⌝ }
     ensures answer { λ r. ⌜ ((edges : ℕ) → r ≡ isTree (arrayGraph nodes edges (now (end1 .entry)) (now (end2 .entry))) (take count (now (ranks .entry)))) ⌝ }
     ensures walked { λ r. ⌜ (r ≡ true → Walked nodes count (now (ranks .entry)) (now (end1 .entry)) (now (end2 .entry)) nodes (now (mask .exit))) ⌝ }
 {

@@ -48,8 +48,8 @@ job-refusal-requires c κs =
     let k = c .before .before .before .before .before .before .before in
     ((_, kept k), k .before .before .before .before .before .before .before .pre .ranks)
 
-refused-requires : tie.Need-refused-requires
-refused-requires c κs = search needs
+refused-header-requires : tie.Need-refused-header-requires
+refused-header-requires c κs = search needs
 
 returns-2 : tie.Need-returns-2
 returns-2 c =
@@ -58,9 +58,9 @@ returns-2 c =
     let r = k .before .load-job in
     let a = k .before .before .before .before .before .before .before .args in
     let n = c .before .if2 .taken in (
-      c .refused .ensures ∙ job-refused (a .frame .now) (r .result) (r .ensures .0) (k .if1 .left) (t .job-refusal .result)
+      c .refused-header .ensures ∙ job-refused (a .frame .now) (r .result) (r .ensures .0) (k .if1 .left) (t .job-refusal .result)
           (t .job-refusal .ensures .0 _ (kept k)) n,
-      λ z. absurd (refused-nonzero (c .refused .result) (t .job-refusal .result) (c .refused .ensures) n z),
+      λ z. absurd (refused-nonzero (c .refused-header .result) (t .job-refusal .result) (c .refused-header .ensures) n z),
     )
 
 returns-3 : tie.Need-returns-3
@@ -82,6 +82,6 @@ accept-spec =
     returns
     cast-edges
     job-refusal-requires
-    refused-requires
+    refused-header-requires
     returns-2
     returns-3)

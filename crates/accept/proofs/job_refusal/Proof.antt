@@ -6,7 +6,7 @@ use Rattle.frame.specs.Job.{Job}
 use Rattle.frame.specs.Arrays.{Columns, columns}
 use Rattle.frame.specs.Lists.{Listed}
 use Rattle.held.specs.Held.{Stored}
-use Rattle.accept.specs.ArrayLaws.{edges-most, costs-small, links-wrong, links-right, count-few, count-wrong}
+use Rattle.accept.specs.ArrayLaws.{edges-most, costs-small, links-wrong, links-right, count-few}
 use Rattle.accept.specs.ArrayLaws.{tree-ranked, tree-wrong, tree-right, tree-held}
 use Rattle.accept.proofs.job_refusal.Statement.{statement}
 use Rattle.accept.proofs.job_refusal.Tie as tie
@@ -35,56 +35,40 @@ tree-ranks-requires c κs =
     let (j, k) = t .pre .0 in
     (edges-most k, t .pre .1, costs-small k)
 
-add-if2 : tie.Need-add-if2
-add-if2 c =
-    let f = c .before .before in
-    let (j, k) = f .before .before .pre .0 in
-    let e = c .tree-ranks .ensures in
-    omega (arith, count-few k (passed f k) (c .tree-ranks .result) (c .tree-ranks .last .1 .1 .1 .0) (e .0) (e .1 .0) (e .1 .1))
-
-returns-2 : tie.Need-returns-2
-returns-2 c =
-    let t = c .before in
-    let f = t .before .before in
-    let e = t .tree-ranks .ensures in (
-      λ j k. count-wrong k (passed f k) (t .tree-ranks .result) (t .tree-ranks .last .1 .1 .1 .0) (e .0) (e .1 .0) (e .1 .1) (c .if2 .taken),
-      λ j k z. absurd (omega (arith, z)),
-    )
-
 question6-requires : tie.Need-question6-requires
 question6-requires c κs =
-    let t = c .before .before .before in
+    let t = c .before .before in
     let f = t .before .before in
     let (j, k) = f .before .before .pre .0 in
     let e = t .tree-ranks .ensures in
-    tree-ranked k (passed f k) (t .tree-ranks .result) (t .tree-ranks .last .1 .1 .1 .0) (e .0) (e .1 .0) (e .1 .1) (c .before .before .if2 .left)
+    let few = count-few k (passed f k) (t .tree-ranks .result) (t .tree-ranks .last .1 .1 .1 .0) (e .0) (e .1 .0) (e .1 .1) in
+    ((few, omega (arith, few, e .1 .1)), tree-ranked k (passed f k) (t .tree-ranks .result) (t .tree-ranks .last .1 .1 .1 .0) (e .0) (e .1 .0) (e .1 .1))
 
-returns-3 : tie.Need-returns-3
-returns-3 c =
+returns-2 : tie.Need-returns-2
+returns-2 c =
     let q = c .before in
-    let t = q .before .before .before .before in
+    let t = q .before .before .before in
     let f = t .before .before in
     let e = t .tree-ranks .ensures in (
       λ j k.
           tree-wrong k (passed f k) (t .tree-ranks .result) (t .tree-ranks .last .1 .1 .1 .0) (e .0) (e .1 .0) (e .1 .1)
-          (q .before .before .before .if2 .left) (q .question6 .result) (q .question6 .ensures .0) (not-true _ (c .if3 .taken)),
+          (q .question6 .result) (q .question6 .ensures .0) (not-true _ (c .if2 .taken)),
       λ j k z. absurd (omega (arith, z)),
     )
 
-returns-4 : tie.Need-returns-4
-returns-4 c =
+returns-3 : tie.Need-returns-3
+returns-3 c =
     let q = c .before in
-    let t = q .before .before .before .before in
+    let t = q .before .before .before in
     let f = t .before .before in
     let e = t .tree-ranks .ensures in
-    let yes = not-false _ (c .if3 .left) in (
+    let yes = not-false _ (c .if2 .left) in (
       λ j k.
           tree-right k (passed f k) (t .tree-ranks .result) (t .tree-ranks .last .1 .1 .1 .0) (e .0) (e .1 .0) (e .1 .1)
-          (q .before .before .before .if2 .left) (q .question6 .result) (q .question6 .ensures .0) yes,
+          (q .question6 .result) (q .question6 .ensures .0) yes,
       λ j k _.
           tree-held k (passed f k) (t .tree-ranks .result) (t .tree-ranks .last .1 .1 .1 .0) (e .0) (e .1 .0) (e .1 .1)
-          (q .before .before .before .if2 .left) (q .question6 .result) (q .question6 .ensures .0) yes (q .question6 .last .1 .1 .1 .1 .1 .0)
-          (q .question6 .ensures .1 yes),
+          (q .question6 .result) (q .question6 .ensures .0) yes (q .question6 .last .1 .1 .1 .1 .1 .0) (q .question6 .ensures .1 yes),
     )
 
 pub job-refusal-spec : {M : Type 1} → statement M
@@ -94,8 +78,6 @@ job-refusal-spec =
     links-refusal-requires
     returns
     tree-ranks-requires
-    add-if2
-    returns-2
     question6-requires
-    returns-3
-    returns-4)
+    returns-2
+    returns-3)

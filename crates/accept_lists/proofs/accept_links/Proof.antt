@@ -75,18 +75,18 @@ number t = t .accept-list .ensures .0 ∙ ap listRefusal (job (spread-of t))
 count-refusal-requires : tie.Need-count-refusal-requires
 count-refusal-requires c κs = search needs
 
-refused-requires : tie.Need-refused-requires
-refused-requires c κs = search needs
+refused-header-requires : tie.Need-refused-header-requires
+refused-header-requires c κs = search needs
 
 returns : tie.Need-returns
 returns c =
     let t = c .before .before in
     let n = c .before .if1 .taken in (
       record {
-        refused = λ _. c .refused .ensures ∙ ap refusedHeader (t .count-refusal .ensures);
+        refused = λ _. c .refused-header .ensures ∙ ap refusedHeader (t .count-refusal .ensures);
         said = λ z. absurd (n (t .count-refusal .ensures ∙ z));
       },
-      λ z. absurd (refused-nonzero (c .refused .result) (t .count-refusal .result) (c .refused .ensures) n z),
+      λ z. absurd (refused-nonzero (c .refused-header .result) (t .count-refusal .result) (c .refused-header .ensures) n z),
     )
 
 spread-requires : tie.Need-spread-requires
@@ -100,8 +100,8 @@ accept-list-requires c κs = (
   start-of (c .before .before .before .before .before .before) .pre .ranks,
 )
 
-refused-requires-2 : tie.Need-refused-requires-2
-refused-requires-2 c κs = search needs
+refused-header-requires-2 : tie.Need-refused-header-requires-2
+refused-header-requires-2 c κs = search needs
 
 returns-2 : tie.Need-returns-2
 returns-2 c =
@@ -112,10 +112,10 @@ returns-2 c =
       record {
         refused = λ w. absurd (w (passed k));
         said =
-            λ _. list-refused (listJob (a .nodes) (take (a .list .count) (a .list .links))) (t .accept-list .result) (c .refused2 .result) _ (number t) n
-            (c .refused2 .ensures);
+            λ _. list-refused (listJob (a .nodes) (take (a .list .count) (a .list .links))) (t .accept-list .result) (c .refused-header2 .result) _ (number t) n
+            (c .refused-header2 .ensures);
       },
-      λ z. absurd (refused-nonzero (c .refused2 .result) (t .accept-list .result) (c .refused2 .ensures) n z),
+      λ z. absurd (refused-nonzero (c .refused-header2 .result) (t .accept-list .result) (c .refused-header2 .ensures) n z),
     )
 
 cast-t25 : tie.Need-cast-t25
@@ -145,11 +145,11 @@ accept-links-spec =
     tie.close
     (tie.spec
     count-refusal-requires
-    refused-requires
+    refused-header-requires
     returns
     spread-requires
     accept-list-requires
-    refused-requires-2
+    refused-header-requires-2
     returns-2
     cast-t25
     returns-3)

@@ -47,14 +47,14 @@ filled-in k =
 read-counts-requires : tie.Need-read-counts-requires
 read-counts-requires c κs = search needs
 
-refused-requires : tie.Need-refused-requires
-refused-requires c κs = search needs
+refused-header-requires : tie.Need-refused-header-requires
+refused-header-requires c κs = search needs
 
 returns : tie.Need-returns
 returns c =
     let k = c .before .before in
     let h = counts-refused (k .before .before .args .frame .now) (k .read-counts .result) (k .read-counts .ensures) (c .before .if1 .taken) in
-    (c .refused .ensures ∙ h, λ z. absurd (c .before .if1 .taken (sym (ap (λ (r : Header). r .refusal) (c .refused .ensures)) ∙ z)))
+    (c .refused-header .ensures ∙ h, λ z. absurd (c .before .if1 .taken (sym (ap (λ (r : Header). r .refusal) (c .refused-header .ensures)) ∙ z)))
 
 sub-part : tie.Need-sub-part
 sub-part c = passing c .within
@@ -83,7 +83,7 @@ load-job-spec =
     tie.close
     (tie.spec
     read-counts-requires
-    refused-requires
+    refused-header-requires
     returns
     sub-part
     part-part-start

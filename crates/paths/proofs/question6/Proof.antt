@@ -14,10 +14,10 @@ returns : tie.Need-returns
 returns c =
     let s = c .before in
     let a = s .args in
-    (λ edges. sym (tree-missed (a .nodes) (a .count) (a .ranks .now) (a .end1 .now) (a .end2 .now) (s .pre) edges (c .if1 .taken)), λ h. clash h refl)
+    (λ edges. sym (tree-missed (a .nodes) (a .count) (a .ranks .now) (a .end1 .now) (a .end2 .now) (s .pre .0 .1) edges (c .if1 .taken)), λ h. clash h refl)
 
 root-paths-requires : tie.Need-root-paths-requires
-root-paths-requires c κs = search needs
+root-paths-requires c κs = c .before .before .pre .1 (c .before .if1 .left)
 
 returns-2 : tie.Need-returns-2
 returns-2 c =
@@ -25,7 +25,7 @@ returns-2 c =
     let s = i .before in
     let a = s .args in
     let w = c .root-paths in (
-      λ edges. tree-found (a .nodes) (a .count) (a .ranks .now) (a .end1 .now) (a .end2 .now) (s .pre) edges (w .result) _ (i .if1 .left) (w .ensures),
+      λ edges. tree-found (a .nodes) (a .count) (a .ranks .now) (a .end1 .now) (a .end2 .now) (s .pre .0 .1) edges (w .result) _ (i .if1 .left) (w .ensures),
       λ h. rw (eqb-true (w .result) (a .nodes) h) at (w .ensures),
     )
 
