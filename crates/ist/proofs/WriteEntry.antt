@@ -22,33 +22,33 @@ use prog.Routine.{Routine}
 use prog.Wp.{Heap, WpFn, Tables}
 use ghost.Atoms.{Atoms}
 use contract.Monad.{Fun, fact}
-use types.Kit.{Given, Item, ‵, raw, _⊛_, ⋆, some, later, _$_, _∵_, !, qed, by, move}
-use types.Kit.{keep, drop, use1, use2, split, join, pick, fsplit, fjoin, feqL, suffices, frame, await, done}
+use types.Kit.{Given, Item, ‵, raw, _⊛_, ⋆, _$_, _∵_, !, qed, by, move}
+use types.Kit.{keep, drop, use1, use2, split, join, fsplit, fjoin, feqL, suffices, frame, done}
 use types.Part.{whole, sub, look-in, agg}
 use types.Run.{look, init, stop, hop, fld, from, load, addr, and-then, no-more}
 use types.Run.{assigns, land, returns, enter, alloc1, alloc0, params1, pass1, pass0, free0}
 use sound.WpLaws.{fmOf, WpFn-mono}
 use denote.RattleType.{owns}
-use denote.Laws.{Is, shows}
+use denote.Laws.{Is}
 use denote.Plain.{uint-vals, uint-tells, uint-makes}
 use denote.Signed.{sint-lawful}
 use denote.Builtin.{u8, u32, usize, i32}
 use denote.Ref.{RefT, MutRef, now, ptr-vals, mut-tells}
 use denote.Signature.{plain, shrSlice, mutSlice, mutRef}
 use denote.Slice.{sliceVal, sliceTy, slice-vals, ShrSlice, MutSlice, finally, shr-slice-tells, mut-slice-tells, shr-slice-lawful, mut-slice-lawful}
-use denote.Steps.{peeks, owned, heard, nothing}
+use denote.Steps.{owned, nothing}
 use denote.Triple.Statement.{Contract, Triple}
-use denote.Triple.Call.{calls-at}
 use denote.Triple.Entry.{onEntry, Args, Vals}
 use denote.Triple.Spec.{Meets, tripleOf}
 use denote.Triple.Walked.{says, Stays, stay-none, stay-none-slice, gave-slice, gave-ref, walkOf, goes-none}
 use denote.Triple.Walked.{goes-none-slice, goes-gave-slice, goes-gave-ref, Walks, ends-at, walked, walk-meets}
 use denote.Exit.{yes}
-use denote.Triple.Clauses.{Ended, Clauses, closing, Lasts, ensured, lasts}
+use denote.Triple.Clauses.{Ended, Clauses, closing}
 use Rattle.records.specs.declared.Link.{Link}
 use Rattle.records.specs.Records.{listCopy}
 use Rattle.records.proofs.ListCopy.Laws as C′
 use Rattle.records.proofs.LinkRows.{R, word, slice, gone}
+use Rattle.records.proofs.Told.{calls-told}
 use Rattle.codes.specs.Exports.{Of}
 use Rattle.ist.proofs.Lent.{Copy, S, Own, calls-copy, copy-typed, copy-makes}
 use Rattle.records.proofs.copy_list.Symbol.{name as #records·copy-list}
@@ -202,26 +202,18 @@ module _ {M : Type 1} (𝓤 : URA M) (H : Heap 𝓤) (A : Atoms 𝓤) (W : Given
         assigns ! (addr ! (from ! (hop ! (look ! 12 refl) (stop !)))) (from ! (stop !)) (init ! 4 refl (tt, tt)) $
         move ! (3 ∷ 2 ∷ []) $ use2 W (raw (Core 𝓤 H A Φ .pre (to u))) (goes u gn is) $
         -- [what `core` asks; the list's token; what it owns; _8; …]
-        calls-at ! (fmOf 𝓤 H (W .laws) 𝓣) (Core 𝓤 H A Φ) known (to u)
+        calls-told ! core (says-core 𝓤 Φ) (to u .0) tt (λ r ws. Of (listCopy (now s)) (λ ys. Φ n ys (now x) r (ws .1 .1 .1 .0) (ws .1 .1 .0))) (λ _ _. id⊢ 𝓤 _)
+        (fmOf 𝓤 H (W .laws) 𝓣) known
         (and-then ! (load ! (from ! (stop !)) (look ! 17 refl))
         (and-then ! (load ! (from ! (stop !)) (look ! 9 refl))
-        (and-then ! (load ! (from ! (stop !)) (look ! 5 refl)) (and-then ! (load ! (from ! (stop !)) (look ! 3 refl)) (no-more !))))) (λ z.
-        use1 W (later (some (λ (r : i32 .Denot). (Toks ⊛ ‵ (i32 .own r (z ∷ []))) ⊛ raw
-        (ensured 𝓤 H A core (says-core 𝓤 Φ) (κ₁, (κ₂, tt)) (given-core u) tt r)))) (id⊢ 𝓤 _) $ await ! tt $ pick ! (λ r.
-        split ! $ move ! (1 ∷ []) $
-        use1 W (some (λ (ws : Lasts core (κ₁, (κ₂, tt)) (given-core u)). ‵ (lasts core (κ₁, (κ₂, tt)) (given-core u) ws) ⊛ raw
-        (fact 𝓤 (Of (listCopy (now s))
-        (λ ys. Φ n ys (now x) r (ws .1 .1 .1 .0) (ws .1 .1 .0)))))) (id⊢ 𝓤 _) $ pick ! (λ ws.
-        split ! $ move ! (1 ∷ []) $ heard ! (Of (listCopy (now s))
-        (λ ys. Φ n ys (now x) r (ws .1 .1 .1 .0) (ws .1 .1 .0))) (λ e.
-        fsplit ! $ drop ! $ fsplit ! $ drop ! $ fsplit ! $ fsplit ! $ move ! (1 ∷ []) $ feqL !
-        (λ l. move ! (1 ∷ []) $ fsplit ! $
-        move ! (3 ∷ []) $ split ! $ move ! (1 ∷ []) $ peeks ! i32 (Is i32) (shows 𝓤 H A i32) r (z ∷ []) (λ told.
+        (and-then ! (load ! (from ! (stop !)) (look ! 5 refl)) (and-then ! (load ! (from ! (stop !)) (look ! 3 refl)) (no-more !))))) (λ z r ws e told.
+        move ! (2 ∷ []) $ fsplit ! $ drop ! $ fsplit ! $ drop ! $ fsplit ! $ fsplit ! $ move ! (1 ∷ []) $ feqL ! (λ l.
+        move ! (1 ∷ []) $ fsplit ! $ move ! (4 ∷ []) $ use1 W Toks (id⊢ 𝓤 _) $ move ! (4 ∷ []) $
         -- [the result; the tokens; the last length; true; the last area; the list's token; what it owns; _8; …]
         land ! (from ! (stop !)) (init ! 23 refl (sint-lawful 𝓤 H A W w32 .typed r _ told .0)) $ returns ! (look ! 23 refl) $
         gone ! 23 refl refl $ gone ! 21 refl refl $ gone ! 19 refl refl $ gone ! 17 refl refl $ gone ! 15 refl refl $ gone ! 13 refl refl $
         gone ! 11 refl refl $ gone ! 9 refl refl $ gone ! 7 refl refl $ free0 ! $
-        keep ! (5 ∷ 1 ∷ 6 ∷ 4 ∷ 2 ∷ 0 ∷ []) $ by ! (exits r z (ws .1 .1 .0) (ws .1 .1 .1 .0) gn l (e (now s) refl))))))))))))))))))
+        keep ! (5 ∷ 1 ∷ 6 ∷ 4 ∷ 2 ∷ 0 ∷ []) $ by ! (exits r z (ws .1 .1 .0) (ws .1 .1 .1 .0) gn l (e (now s) refl))))))))))))))
 
 module _ {M : Type 1} (𝓤 : URA M) (H : Heap 𝓤) (A : Atoms 𝓤) (W : Given 𝓤 H A) (Φ : Says) (mem : Memory → SProp 𝓤) (run : Routine → Fun 𝓤) (𝓣 : Tables 𝓤 H)
     (g : Name)

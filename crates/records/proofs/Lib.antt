@@ -1,1 +1,2 @@
 pub mod LinkRows
+pub mod Told

@@ -1,15 +1,17 @@
 -- Laws of links lent as a list: what the copy holds, one more link copied or tested, and a list tested whole.
 -- Assumes nothing.
-use Prim.Native.Nat.{ℕ, zero, suc, _+_, _<_, _≤_, min}
+use Prim.Native.Nat.{ℕ, zero, suc, _+_, _*_, _<_, _≤_, min}
+use native.Mathlib.Decide.{decLt}
 use native.Mathlib.Nat.{sub-zero, zero-sub, suc-sub-suc, zero-min, suc-min-suc}
 use native.Mathlib.Omega.{arith}
 use mathlib.Core.Path.{_≡_, refl, sym, ap, _∙_}
-use mathlib.Core.Bool.{true, false, _&&_}
+use mathlib.Core.Bool.{true, _&&_}
 use mathlib.Core.List.{List, [], _∷_}
 use lib.ListN.{length, getD, set, take, replicate, length-replicate, getD-replicate}
 use lib.Dec.{leb}
+use lib.Bits.{bitOr, or-lt, or-add-and, and-le-l, and-le-r}
 use borrow.Author.Tests.{le-leb, lt-leb}
-use Rattle.limits.specs.Limits.{maxNumber}
+use Rattle.limits.specs.Limits.{maxNumber, numberBytes}
 use Rattle.loops.specs.Below.{allBelow}
 use Rattle.records.specs.declared.Link.{Link}
 use Rattle.records.specs.Records.{zeroLink, firstLinks, columnPut, smallLink, smallTo, allSmall}
@@ -152,16 +154,22 @@ small-more i ys = rw (one-more i) refl
 pub all-small-whole : (ys : List Link) → length ys ≤ maxNumber → allSmall ys ≡ smallTo (length ys) ys
 all-small-whole ys h = ap (λ (k : ℕ). smallTo k ys) (omega arith)
 
--- The test of one link, in the code's order.
-module _ (l : Link) where
-  pub large-end1 : maxNumber < l .end1 → smallLink l ≡ false
-  large-end1 h = rw (lt-leb (l .end1) maxNumber h)
+-- The digits of two numbers at once: 16,383 has every digit below its highest.
+or-small : (a b : ℕ) → leb (bitOr a b) maxNumber ≡ (leb a maxNumber && leb b maxNumber)
+or-small a b = of (decLt maxNumber a) (decLt maxNumber b)
+  where
+    of : Dec (maxNumber < a) → Dec (maxNumber < b) → leb (bitOr a b) maxNumber ≡ (leb a maxNumber && leb b maxNumber)
+    of (yes h) _ = rw (lt-leb a maxNumber h, lt-leb (bitOr a b) maxNumber (omega (arith, h, or-add-and a b, and-le-r a b)))
+    of (no k) (yes h) =
+        rw (le-leb a maxNumber (omega arith), lt-leb b maxNumber h, lt-leb (bitOr a b) maxNumber (omega (arith, h, or-add-and a b, and-le-l a b)))
+    of (no k) (no h) =
+        rw (
+          le-leb a maxNumber (omega arith),
+          le-leb b maxNumber (omega arith),
+          le-leb (bitOr a b) maxNumber (omega (arith, or-lt (7 * numberBytes) a b (omega arith) (omega arith))),
+        )
 
-  pub large-end2 : l .end1 ≤ maxNumber → maxNumber < l .end2 → smallLink l ≡ false
-  large-end2 k₁ h = rw (le-leb (l .end1) maxNumber k₁, lt-leb (l .end2) maxNumber h)
-
-  pub large-cost : l .end1 ≤ maxNumber → l .end2 ≤ maxNumber → maxNumber < l .cost → smallLink l ≡ false
-  large-cost k₁ k₂ h = rw (le-leb (l .end1) maxNumber k₁, le-leb (l .end2) maxNumber k₂, lt-leb (l .cost) maxNumber h)
-
-  pub mark-decides : l .end1 ≤ maxNumber → l .end2 ≤ maxNumber → l .cost ≤ maxNumber → smallLink l ≡ leb (l .mark) maxNumber
-  mark-decides k₁ k₂ k₃ = rw (le-leb (l .end1) maxNumber k₁, le-leb (l .end2) maxNumber k₂, le-leb (l .cost) maxNumber k₃)
+-- The test of one link, of all its digits at once.
+pub small-at-once : (l : Link) → leb (bitOr (bitOr (bitOr (l .end1) (l .end2)) (l .cost)) (l .mark)) maxNumber ≡ smallLink l
+small-at-once l =
+    rw (or-small (bitOr (bitOr (l .end1) (l .end2)) (l .cost)) (l .mark), or-small (bitOr (l .end1) (l .end2)) (l .cost), or-small (l .end1) (l .end2))

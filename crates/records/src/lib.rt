@@ -17,30 +17,19 @@ pub struct Link {
     pub mark: u32,
 }
 
-// Every number of the link is at most 16,383.
+// Every number of the link is at most 16,383. The digits of all four are tested at once: 16,383 has every digit below its
+// highest.
 fn small(l: Link) -> bool
     ensures { λ r. ⌜ r ≡ smallLink l ⌝ }
 {
-    if MOST_NUMBER < l.end1 {
-        return false;
-    }
-    if MOST_NUMBER < l.end2 {
-        return false;
-    }
-    if MOST_NUMBER < l.cost {
-        return false;
-    }
-    l.mark <= MOST_NUMBER
+    l.end1 | l.end2 | l.cost | l.mark <= MOST_NUMBER
 }
 
 // The links so far were small, and so is this one.
 fn still_small(sofar: bool, l: Link) -> bool
     ensures { λ r. ⌜ r ≡ (sofar && smallLink l) ⌝ }
 {
-    if sofar {
-        return small(l);
-    }
-    false
+    sofar & small(l)
 }
 
 // How many of n links are looked at, if at most so many are.

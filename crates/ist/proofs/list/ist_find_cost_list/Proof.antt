@@ -14,33 +14,32 @@ use prog.Memory.{Memory}
 use prog.Routine.{Routine}
 use prog.Wp.{Heap, WpFn, Tables}
 use ghost.Atoms.{Atoms}
-use contract.Monad.{Fun, fact}
+use contract.Monad.{Fun}
 use contract.Running.{givenOf, tables, tablesOf}
-use types.Kit.{Given, Item, ‵, raw, _⊛_, ⋆, some, later, _$_, _∵_, !, qed, by, move}
-use types.Kit.{keep, drop, use1, use2, split, join, pick, fsplit, fjoin, suffices, frame, await, done}
+use types.Kit.{Given, Item, ‵, raw, _⊛_, ⋆, _$_, _∵_, !, qed, by, move}
+use types.Kit.{keep, drop, use1, use2, split, join, fsplit, fjoin, suffices, frame, done}
 use types.Run.{look, init, stop, hop, from, load, of-opd, unit-lit, addr, and-then}
 use types.Run.{no-more, assigns, land, returns, enter, alloc1, alloc0, params1, pass1, pass0, free0}
 use sound.WpLaws.{fmOf, WpFn-mono}
 use denote.RattleType.{owns}
-use denote.Laws.{Is, shows}
+use denote.Laws.{Is}
 use denote.Plain.{uint-vals, uint-tells, uint-makes, nothing-makes, nothing-lawful}
 use denote.Builtin.{u8, u32, usize, unit}
 use denote.Ref.{RefT, MutRef, now, ptr-vals, mut-tells}
 use denote.Signature.{plain}
 use denote.Slice.{sliceVal, slice-vals, ShrSlice, shr-slice-tells, shr-slice-lawful, shr-slice-copy}
-use denote.Steps.{peeks, owned, heard, nothing}
+use denote.Steps.{owned, nothing}
 use denote.Triple.Statement.{Contract, Triple}
-use denote.Triple.Call.{calls-at}
 use denote.Triple.Entry.{onEntry, Args, Vals}
 use denote.Triple.Spec.{Meets, tripleOf}
 use denote.Triple.Table.{entered, cited}
 use denote.Triple.Walked.{says, Stays, stay-none, stay-none-slice, gave-ref, walkOf, goes-none}
 use denote.Triple.Walked.{goes-none-slice, goes-gave-ref, Walks, ends-at, walked, walk-meets}
 use denote.Exit.{yes}
-use denote.Triple.Clauses.{Lasts, ensured, lasts}
 use Rattle.records.specs.declared.Link.{Link}
 use Rattle.records.specs.Records.{listCopy}
 use Rattle.records.proofs.LinkRows.{R, gone}
+use Rattle.records.proofs.Told.{calls-told}
 use Rattle.records.proofs.copy_list.Symbol as copy-def
 use Rattle.records.proofs.copy_list.Symbol.{name as #records·copy-list}
 use Rattle.records.proofs.copy_list.Met as copy-thm
@@ -165,29 +164,22 @@ module _ {M : Type 1} (𝓤 : URA M) (H : Heap 𝓤) (A : Atoms 𝓤) (W : Given
         assigns ! (addr ! (from ! (hop ! (look ! 13 refl) (stop !)))) (from ! (stop !)) (init ! 5 refl (tt, tt)) $
         move ! (3 ∷ 2 ∷ []) $ use2 W (raw (Core 𝓤 H A mem run .pre (to u))) (goes u gn is) $
         -- [what `locate_copy` asks; the list's token; what it owns; what the answer owns; _10; …]
-        calls-at ! (fmOf 𝓤 H (W .laws) 𝓣) (Core 𝓤 H A mem run) known (to u)
+        calls-told ! core.ended (core.clauses 𝓤 H A mem run) (to u .0) tt
+        (λ _ ws. Of (listCopy (now s)) (λ ys. Φ n ys (now x) k (ws .1 .1 .1 .1 .0) (ws .1 .1 .1 .1 .1 .0))) (λ _ _. id⊢ 𝓤 _) (fmOf 𝓤 H (W .laws) 𝓣) known
         (and-then ! (load ! (from ! (stop !)) (look ! 22 refl))
         (and-then ! (load ! (from ! (stop !)) (look ! 10 refl))
         (and-then ! (load ! (from ! (stop !)) (look ! 18 refl))
         (and-then ! (load ! (from ! (stop !)) (look ! 16 refl))
-        (and-then ! (load ! (from ! (stop !)) (look ! 6 refl)) (and-then ! (load ! (from ! (stop !)) (look ! 4 refl)) (no-more !))))))) (λ z.
-        use1 W (later (some (λ (r : unit .Denot). (Toks ⊛ ‵ (unit .own r (z ∷ []))) ⊛ raw
-        (ensured 𝓤 H A core.ended (core.clauses 𝓤 H A mem run) (κ₁, (κ₂, (κ₃, tt))) given-core tt r)))) (id⊢ 𝓤 _) $ await ! tt $ pick ! (λ r.
-        split ! $ move ! (1 ∷ []) $
-        use1 W (some (λ (ws : Lasts core.ended (κ₁, (κ₂, (κ₃, tt))) given-core). ‵ (lasts core.ended (κ₁, (κ₂, (κ₃, tt))) given-core ws) ⊛ raw
-        (fact 𝓤 (Of (listCopy (now s))
-        (λ ys. Φ n ys (now x) k (ws .1 .1 .1 .1 .0) (ws .1 .1 .1 .1 .1 .0)))))) (id⊢ 𝓤 _) $ pick ! (λ ws.
-        split ! $ move ! (1 ∷ []) $ heard ! (Of (listCopy (now s))
-        (λ ys. Φ n ys (now x) k (ws .1 .1 .1 .1 .0) (ws .1 .1 .1 .1 .1 .0))) (λ e.
-        fsplit ! $ drop ! $ fsplit ! $ drop ! $ fsplit ! $ drop ! $ fsplit ! $ drop ! $ fsplit ! $ move ! (1 ∷ []) $ fsplit ! $
-        move ! (3 ∷ []) $ split ! $ move ! (1 ∷ []) $ peeks ! unit (Is unit) (shows 𝓤 H A unit) r (z ∷ []) (λ told.
+        (and-then ! (load ! (from ! (stop !)) (look ! 6 refl)) (and-then ! (load ! (from ! (stop !)) (look ! 4 refl)) (no-more !))))))) (λ z r ws e told.
+        move ! (2 ∷ []) $ fsplit ! $ drop ! $ fsplit ! $ drop ! $ fsplit ! $ drop ! $ fsplit ! $ drop ! $ fsplit ! $ move ! (1 ∷ []) $ fsplit ! $
+        move ! (4 ∷ []) $ use1 W Toks (id⊢ 𝓤 _) $ move ! (4 ∷ []) $
         -- [the result; the tokens; the last length; true; the last offset; the list's token; what it owns; what the answer owns; _10; …]
         land ! (from ! (stop !)) (init ! 12 refl (nothing-lawful 𝓤 H A W .typed r _ told .0)) $ assigns ! (of-opd ! (unit-lit !)) (from ! (stop !))
         (init ! 28 refl (tt, tt)) $ returns ! (look ! 28 refl) $
         gone ! 28 refl refl $ gone ! 26 refl refl $ gone ! 24 refl refl $ gone ! 22 refl refl $ gone ! 20 refl refl $ gone ! 18 refl refl $
         gone ! 16 refl refl $ gone ! 14 refl refl $ gone ! 12 refl refl $ gone ! 10 refl refl $ gone ! 8 refl refl $ free0 ! $
         keep ! (5 ∷ 1 ∷ 6 ∷ 7 ∷ 4 ∷ 2 ∷ []) $ by !
-        (exits (ws .1 .1 .1 .1 .0) (ws .1 .1 .1 .1 .1 .0) gn gk (e (now s) refl)))))))))))))))))))
+        (exits (ws .1 .1 .1 .1 .0) (ws .1 .1 .1 .1 .1 .0) gn gk (e (now s) refl)))))))))))))))
 
 module _ {M : Type 1} (𝓤 : URA M) (H : Heap 𝓤) (A : Atoms 𝓤) (W : Given 𝓤 H A) (mem : Memory → SProp 𝓤) (run : Routine → Fun 𝓤) (𝓣 : Tables 𝓤 H)
     (copied : Triple 𝓤 (𝓣 .C #records·copy-list) (Copy 𝓤 H A mem run))
