@@ -1,46 +1,4 @@
 // Reads one job frame from standard input and prints the answer to it, or why it is refused.
-ghost use Prim.Native.Nat.{_≤_};
-ghost use mathlib.Core.Path.{_≡_};
-ghost use lib.ListN.{length, take};
-ghost use Rattle.io.specs.Counts.{Counts};
-ghost use Rattle.codec.specs.Numbers.{Put};
-ghost use Rattle.settle.specs.Printed.{printed, linesOf};
-use limits::ANSWER_MOST;
-use reading::AnswerRead;
-use reading::JobRead;
-
-// Puts the lines of an answer into a buffer that is long enough for every answer, and gives where they end.
-fn put_answer(out: &mut [u8], job: JobRead, answer: AnswerRead) -> usize
-    requires { ⌜ job .count ≤ 256 ⌝ }
-    requires { ⌜ answer .count ≤ 64 ⌝ }
-    requires { ⌜ 20480 ≤ length (now out) ⌝ }
-    ensures { λ r. ⌜ Put (now (out .entry)) 0 (linesOf job answer) r (now (out .exit)) ⌝ }
-{
-    let links = job.links;
-    let costs = answer.costs;
-    let pairs = answer.pairs;
-    let p = text::put_word(out, 0, b"total ", answer.steps, b"\n");
-    let q = text::put_links(out, p, job.count, links, costs);
-    text::put_pairs(out, q, answer.count, pairs)
-}
-
-// Puts what is to be printed for a job frame into the buffer: the answer's lines, or one that names the refusal.
-fn put_reply(frame: &[u8], out: &mut [u8]) -> usize
-    requires { ⌜ 20480 ≤ length (now out) ⌝ }
-    ensures { λ r. ⌜ take r (now (out .exit)) ≡ printed (now (frame .entry)) ⌝ }
-    ensures { λ r. ⌜ Counts r (now (out .exit)) ⌝ }
-{
-    let mut area = [0u8; ANSWER_MOST];
-    let reply = answering::answer(frame, &mut area);
-    let refusal = reply.refusal;
-    if refusal != 0 {
-        return text::put_word(out, 0, b"refused ", refusal, b"\n");
-    }
-    let length = reply.length;
-    let job = reading::read_job(frame);
-    let answer = reading::read_answer(frame, &area[..length]);
-    put_answer(out, job, answer)
-}
 
 // Has standard input ended? If not, reading stopped because it failed.
 fn ended() -> bool {
@@ -67,6 +25,6 @@ fn main() {
         return;
     }
     let mut out = [0u8; 20480];
-    let length = put_reply(&input[..n], &mut out);
+    let length = printing::put_reply(&input[..n], &mut out);
     write(&out[..length]);
 }

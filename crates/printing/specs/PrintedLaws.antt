@@ -35,7 +35,7 @@ use Rattle.reading.specs.AnswersRead.{answerRead, readOf, AnswerGiven}
 use Rattle.reading.specs.AnswerReadLaws.{pairs-most, pairs-back, read-some}
 use Rattle.text.specs.Text.{totalWord, refusedWord, wordLine, costLine, costLines, pairLine, pairLines, answerText}
 use Rattle.text.specs.TextLaws.{lines-same, word-line-most, cost-lines-most, pair-lines-most}
-use Rattle.settle.specs.Printed.{printed, linesOf}
+use Rattle.printing.specs.Printed.{printed, linesOf}
 
 -- The lines of an accepted job and its answer, read into arrays.
 module _ (j : Job) (k : length (j .links) ≤ 256) (a : Answer) (few : length (a .pairs) ≤ 64) where

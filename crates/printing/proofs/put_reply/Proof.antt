@@ -1,4 +1,4 @@
--- `settle::put_reply` meets its contract: the text of the answer, or of the refusal. An area of 768 bytes and a buffer of
+-- `printing::put_reply` meets its contract: the text of the answer, or of the refusal. An area of 768 bytes and a buffer of
 -- 20,480 are never too short. Assumes nothing.
 use Prim.Native.Nat.{ℕ, _≤_}
 use native.Mathlib.Omega.{arith}
@@ -9,9 +9,9 @@ use borrow.Author.Needs.{needs}
 use Rattle.number.specs.Number.{Bytes}
 use Rattle.text.specs.Text.{refusedWord}
 use Rattle.text.specs.TextLaws.{word-line-most, put-text}
-use Rattle.settle.specs.PrintedLaws.{refused-line, answer-fits, printed-links, pairs-few-read, accepted-lines, lines-fit}
-use Rattle.settle.proofs.put_reply.Statement.{statement}
-use Rattle.settle.proofs.put_reply.Tie as tie
+use Rattle.printing.specs.PrintedLaws.{refused-line, answer-fits, printed-links, pairs-few-read, accepted-lines, lines-fit}
+use Rattle.printing.proofs.put_reply.Statement.{statement}
+use Rattle.printing.proofs.put_reply.Tie as tie
 
 -- The area's length.
 room : length (replicate {A = ℕ} 768 0) ≡ 768

@@ -1,4 +1,4 @@
--- `settle::put_answer` meets its contract: the steps, the links and the pairs, one behind the other. Assumes nothing.
+-- `printing::put_answer` meets its contract: the steps, the links and the pairs, one behind the other. Assumes nothing.
 use Prim.Native.Nat.{ℕ}
 use native.Mathlib.Omega.{arith}
 use mathlib.Core.List.{_++_}
@@ -9,8 +9,8 @@ use Rattle.codec.specs.WritingLaws.{put-more, put-room}
 use Rattle.records.specs.Records.{zeroLink}
 use Rattle.text.specs.Text.{totalWord, wordLine, costLines}
 use Rattle.text.specs.TextLaws.{word-line-most, cost-lines-most}
-use Rattle.settle.proofs.put_answer.Statement.{statement}
-use Rattle.settle.proofs.put_answer.Tie as tie
+use Rattle.printing.proofs.put_answer.Statement.{statement}
+use Rattle.printing.proofs.put_answer.Tie as tie
 
 slice-aggregate-put-word : tie.Need-slice-aggregate-put-word
 slice-aggregate-put-word c = search needs
