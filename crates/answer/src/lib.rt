@@ -26,9 +26,9 @@ fn answer_size(
     ensures { λ r. ⌜ r ≡ length (answerFrame (answerAt steps edges (now (costs .entry)) count (now (pairs .entry)))) ⌝ }
 {
     leb128_write::size(steps, STEP_BYTES)
-        + codec::size(costs, edges)
+        + codec::numbers_size(costs, edges)
         + leb128_write::size_short(count as u32)
-        + codec::size(pairs, 2 * count)
+        + codec::numbers_size(pairs, 2 * count)
 }
 
 // Does the answer frame fit into so many bytes? Steps take at most three, a count of at most 64 one, every other number at
@@ -67,9 +67,9 @@ fn put_answer(
     ensures { λ r. ⌜ Put (now (area .entry)) at (answerFrame (answerAt steps edges (now (costs .entry)) count (now (pairs .entry)))) r (now (area .exit)) ⌝ }
 {
     let first = leb128_write::write(area, at, steps, STEP_BYTES);
-    let middle = codec::write(area, first, costs, edges);
+    let middle = codec::write_numbers(area, first, costs, edges);
     let last = leb128_write::write_short(area, middle, count as u32);
-    codec::write(area, last, pairs, 2 * count)
+    codec::write_numbers(area, last, pairs, 2 * count)
 }
 
 // Writes the answer frame at a position of the area, unless there was a refusal before; question 7.

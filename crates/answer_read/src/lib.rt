@@ -59,7 +59,7 @@ pub fn load_answer(
     if total <= edges {
         return no_contents();
     }
-    let at = codec::read(part, 0, costs, edges);
+    let at = codec::read_numbers(part, 0, costs, edges);
     let many = number_at(part, at);
     if 64 < many.value {
         return no_contents();
@@ -68,7 +68,7 @@ pub fn load_answer(
     if total != edges + 1 + 2 * count {
         return no_contents();
     }
-    codec::read(part, many.next, pairs, 2 * count);
+    codec::read_numbers(part, many.next, pairs, 2 * count);
     Contents {
         ok: true,
         steps: steps,

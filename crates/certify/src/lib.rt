@@ -36,7 +36,7 @@ pub fn certify(
     if solution::steps(edges, cost, &costs) != steps {
         return false;
     }
-    if !cheapest::judge(edges, ts, trees, end1, end2, &costs, mark, mask) {
+    if !cheapest::judge_unsorted(edges, ts, trees, end1, end2, &costs, mark, mask) {
         return false;
     }
     if !pairing::pairs_hold(

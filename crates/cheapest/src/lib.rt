@@ -117,7 +117,7 @@ pub fn judge_ranked(
 
 // Does every spare cost at least as much as every tree edge that it covers? The costs may be in any
 // order along the ranks.
-pub fn judge(
+pub fn judge_unsorted(
     edges: usize,
     ranks: &[u32; 256],
     count: usize,

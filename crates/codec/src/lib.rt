@@ -63,7 +63,7 @@ pub fn skip(s: &[u8], at: usize, count: usize) -> usize
 }
 
 // How many bytes the first `count` numbers take.
-pub fn size(values: &[u32], count: usize) -> usize
+pub fn numbers_size(values: &[u32], count: usize) -> usize
     requires { ⌜ count ≤ length (now values) ⌝ }
     ensures { λ r. ⌜ r ≡ length (bytesOf (numbersAt count (now (values .entry)))) ⌝ }
 {
@@ -77,7 +77,7 @@ pub fn size(values: &[u32], count: usize) -> usize
 }
 
 // Puts the first `count` numbers at a position, one behind the other, and gives the position behind them.
-pub fn write(area: &mut [u8], at: usize, values: &[u32], count: usize) -> usize
+pub fn write_numbers(area: &mut [u8], at: usize, values: &[u32], count: usize) -> usize
     requires { ⌜ count ≤ length (now values) ⌝ }
     requires { ⌜ at + length (bytesOf (numbersAt count (now values))) ≤ length (now area) ⌝ }
     ensures { λ r. ⌜ Put (now (area .entry)) at (bytesOf (numbersAt count (now (values .entry)))) r (now (area .exit)) ⌝ }
@@ -92,7 +92,7 @@ pub fn write(area: &mut [u8], at: usize, values: &[u32], count: usize) -> usize
 }
 
 // Reads so many numbers from a position on, each into its place, and gives the position behind them.
-pub fn read(s: &[u8], at: usize, values: &mut [u32], count: usize) -> usize
+pub fn read_numbers(s: &[u8], at: usize, values: &mut [u32], count: usize) -> usize
     requires { ⌜ count ≤ length (now values) ⌝ }
     ensures { λ r. ⌜ loadedAt r (now (values .exit)) ≡ loaded (now (s .entry)) at count (now (values .entry)) ⌝ }
 {

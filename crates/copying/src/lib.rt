@@ -14,7 +14,7 @@ pub struct JobCopy {
 }
 
 // What is said of a job that is not copied: the refusal, and nothing else.
-fn refused(refusal: u32) -> JobCopy
+fn refused_copy(refusal: u32) -> JobCopy
     ensures { λ r. ⌜ r ≡ refusedCopy refusal ⌝ }
 {
     JobCopy {
@@ -31,11 +31,11 @@ pub fn copy_job(frame: &[u8], links: &mut [u32]) -> JobCopy
     let read = reading::read_job(frame);
     let refusal = read.refusal;
     if refusal != 0 {
-        return refused(refusal);
+        return refused_copy(refusal);
     }
     let count = read.count;
     if links.len() / 4 < count {
-        return refused(7);
+        return refused_copy(7);
     }
     let all = read.links;
     filling::copy_links(all, count, links);

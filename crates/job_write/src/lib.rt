@@ -61,14 +61,14 @@ pub fn write_job(
     let mut numbers = [0u32; 1026];
     list_numbers(nodes, edges, end1, end2, cost, mark, &mut numbers);
     let count = 4 * edges + 2;
-    let size = codec::size(&numbers, count);
+    let size = codec::numbers_size(&numbers, count);
     if area.len() < at {
         return refused(7);
     }
     if area.len() - at < size {
         return refused(7);
     }
-    codec::write(area, at, &numbers, count);
+    codec::write_numbers(area, at, &numbers, count);
     Reply {
         refusal: 0,
         length: size,

@@ -22,7 +22,7 @@ pub struct JobRead {
 }
 
 // What is read of a refused frame: the refusal, and nothing else.
-fn refused(refusal: u32) -> JobRead
+fn refused_read(refusal: u32) -> JobRead
     ensures { λ r. ⌜ r ≡ refusedRead refusal ⌝ }
 {
     JobRead {
@@ -82,7 +82,7 @@ pub fn read_job(frame: &[u8]) -> JobRead
     );
     let refusal = header.refusal;
     if refusal != 0 {
-        return refused(refusal);
+        return refused_read(refusal);
     }
     JobRead {
         refusal: 0,

@@ -44,11 +44,11 @@ start1 w = w .before .before .before
 put1 : (w : tie.After-write) → Done (start1 w) (steps (start1 w)) (w .write .result) (w .write .last .0)
 put1 w = record { next = w .write .ensures .0; area = w .write .ensures .1 }
 
-abbrev start2 : tie.After-write2 → tie.Start
+abbrev start2 : tie.After-write-numbers → tie.Start
 start2 w = start1 (w .before .before .before .before .before)
 
-put2 : (w : tie.After-write2) → let s = start2 w in Done s (steps s ++ costs s) (w .write2 .result) (w .write2 .last .0)
-put2 w = put-more _ _ _ _ _ _ _ _ (put1 (w .before .before .before .before .before)) (w .write2 .ensures .next) (w .write2 .ensures .area)
+put2 : (w : tie.After-write-numbers) → let s = start2 w in Done s (steps s ++ costs s) (w .write-numbers .result) (w .write-numbers .last .0)
+put2 w = put-more _ _ _ _ _ _ _ _ (put1 (w .before .before .before .before .before)) (w .write-numbers .ensures .next) (w .write-numbers .ensures .area)
 
 abbrev start3 : tie.After-write-short → tie.Start
 start3 w = start2 (w .before .before .before .before)
@@ -59,8 +59,8 @@ put3 w = put-more _ _ _ _ _ _ _ _ (put2 (w .before .before .before .before)) (w 
 write-requires : tie.Need-write-requires
 write-requires c κs = omega (arith, whole (c .before .before))
 
-write-requires-2 : tie.Need-write-requires-2
-write-requires-2 c κs =
+write-numbers-requires : tie.Need-write-numbers-requires
+write-numbers-requires c κs =
     let w = c .before .before .before .before in
     (omega (arith, w .before .before .before .pre .0), put-room _ _ _ _ _ _ (put1 w) (omega (arith, whole (w .before .before .before))))
 
@@ -72,11 +72,11 @@ write-short-requires c κs =
     let w = c .before .before .before in
     put-room _ _ _ _ _ _ (put2 w) (simp length-append (omega (arith, whole (start2 w))))
 
-mul-write : tie.Need-mul-write
-mul-write c = search needs
+mul-write-numbers : tie.Need-mul-write-numbers
+mul-write-numbers c = search needs
 
-write-requires-3 : tie.Need-write-requires-3
-write-requires-3 c κs =
+write-numbers-requires-2 : tie.Need-write-numbers-requires-2
+write-numbers-requires-2 c κs =
     let w = c .before .before .before .before in
     (omega (arith, start3 w .pre .1 .0), put-room _ _ _ _ _ _ (put3 w) (simp length-append (omega (arith, whole (start3 w)))))
 
@@ -89,19 +89,19 @@ returns c =
     let k = w .before .before .before .before .before in
     let s = start3 k in
     let a = s .args in
-    subst (λ (bytes : List ℕ). Done s bytes (w .write3 .result) (w .write3 .last .0))
+    subst (λ (bytes : List ℕ). Done s bytes (w .write-numbers2 .result) (w .write-numbers2 .last .0))
     (answer-bytes (a .steps) (a .edges) (a .costs .now) (a .count) (a .pairs .now))
-    (put-more _ _ _ _ _ _ _ _ (put3 k) (w .write3 .ensures .next) (w .write3 .ensures .area))
+    (put-more _ _ _ _ _ _ _ _ (put3 k) (w .write-numbers2 .ensures .next) (w .write-numbers2 .ensures .area))
 
 pub put-answer-spec : {M : Type 1} → statement M
 put-answer-spec =
     tie.close
     (tie.spec
     write-requires
-    write-requires-2
+    write-numbers-requires
     cast-write-short
     write-short-requires
-    mul-write
-    write-requires-3
+    mul-write-numbers
+    write-numbers-requires-2
     same-length
     returns)

@@ -97,8 +97,8 @@ returns-3 c =
     no-answer _ _ _ _ _ (c .no-contents3 .ensures)
     (read-short _ _ (bytes (first-of n)) _ _ (steps (first-of n)) (part-of (first-of n)) (part-is (first-of n)) _ (counted n) (c .before .if1 .taken))
 
-read-requires-2 : tie.Need-read-requires-2
-read-requires-2 c κs = search needs
+read-numbers-requires : tie.Need-read-numbers-requires
+read-numbers-requires c κs = search needs
 
 number-at-requires : tie.Need-number-at-requires
 number-at-requires c κs = search needs
@@ -113,7 +113,7 @@ returns-4 c =
     let n = r .before .before .before .before in
     no-answer _ _ _ _ _ (c .no-contents4 .ensures)
     (answer-many _ _ (bytes (first-of n)) _ _ (steps (first-of n)) (part-of (first-of n)) (part-is (first-of n)) _ (counted n)
-    (r .before .before .if1 .left) _ _ _ (r .read2 .ensures) (k .number-at .result) (k .number-at .ensures) (c .before .if2 .taken))
+    (r .before .before .if1 .left) _ _ _ (r .read-numbers .ensures) (k .number-at .result) (k .number-at .ensures) (c .before .if2 .taken))
 
 cast-count : tie.Need-cast-count
 cast-count c = search needs
@@ -137,13 +137,13 @@ returns-5 c =
     let n = r .before .before .before .before in
     no-answer _ _ _ _ _ (c .no-contents5 .ensures)
     (answer-wrong _ _ (bytes (first-of n)) _ _ (steps (first-of n)) (part-of (first-of n)) (part-is (first-of n)) _ (counted n)
-    (r .before .before .if1 .left) _ _ _ (r .read2 .ensures) (k .number-at .result) (k .number-at .ensures) (c .before .if3 .taken))
+    (r .before .before .if1 .left) _ _ _ (r .read-numbers .ensures) (k .number-at .result) (k .number-at .ensures) (c .before .if3 .taken))
 
-mul-read : tie.Need-mul-read
-mul-read c = search needs
+mul-read-numbers : tie.Need-mul-read-numbers
+mul-read-numbers c = search needs
 
-read-requires-3 : tie.Need-read-requires-3
-read-requires-3 c κs = search needs
+read-numbers-requires-2 : tie.Need-read-numbers-requires-2
+read-numbers-requires-2 c κs = search needs
 
 returns-6 : tie.Need-returns-6
 returns-6 c =
@@ -153,14 +153,14 @@ returns-6 c =
     let n = r .before .before .before .before in
     let s = first-of n .before .before .before .before in (
       answer-read _ _ (bytes (first-of n)) _ _ (steps (first-of n)) (part-of (first-of n)) (part-is (first-of n)) _ (counted n)
-          (r .before .before .if1 .left) _ _ _ (r .read2 .ensures) (k .number-at .result) (k .number-at .ensures) (e .if3 .left) (e .before .before .if2 .left)
-          _ _ _ (c .read3 .ensures) (s .pre .1 .costs) (s .pre .1 .pairs) (s .pre .0),
+          (r .before .before .if1 .left) _ _ _ (r .read-numbers .ensures) (k .number-at .result) (k .number-at .ensures) (e .if3 .left) (e .before .before .if2 .left)
+          _ _ _ (c .read-numbers2 .ensures) (s .pre .1 .costs) (s .pre .1 .pairs) (s .pre .0),
       (
         e .before .before .if2 .left,
         λ _. answer-kept _ _ (bytes (first-of n)) _ _ (steps (first-of n)) (part-of (first-of n)) (part-is (first-of n)) _ (counted n)
-            (r .before .before .if1 .left) _ _ _ (r .read2 .ensures) (k .number-at .result) (k .number-at .ensures) (e .if3 .left)
+            (r .before .before .if1 .left) _ _ _ (r .read-numbers .ensures) (k .number-at .result) (k .number-at .ensures) (e .if3 .left)
             (e .before .before .if2 .left)
-            _ _ _ (c .read3 .ensures) (s .pre .1 .costs) (s .pre .1 .pairs) (s .pre .0),
+            _ _ _ (c .read-numbers2 .ensures) (s .pre .1 .costs) (s .pre .1 .pairs) (s .pre .0),
       ),
     )
 
@@ -183,7 +183,7 @@ load-answer-spec =
     returns-2
     no-contents-requires-3
     returns-3
-    read-requires-2
+    read-numbers-requires
     number-at-requires
     no-contents-requires-4
     returns-4
@@ -193,6 +193,6 @@ load-answer-spec =
     add-if3-2
     no-contents-requires-5
     returns-5
-    mul-read
-    read-requires-3
+    mul-read-numbers
+    read-numbers-requires-2
     returns-6)

@@ -91,7 +91,7 @@ costs-pass :
     (e : tie.Else3) (j : Job) →
     Here (start-of (read-of (first-of (e .before .before .before)))) j →
     cheapest-at (read-of (first-of (e .before .before .before))) ≡ true
-costs-pass e j h = sym (e .before .judge .ensures _ (paths-held h)) ∙ not-false _ (e .if3 .left)
+costs-pass e j h = sym (e .before .judge-unsorted .ensures _ (paths-held h)) ∙ not-false _ (e .if3 .left)
 
 abbrev second-of : tie.Else4 → tie.Else2
 second-of e = e .before .before .before .before .before .before
@@ -127,14 +127,14 @@ returns-2 c = λ j h.
     let k = c .before in
     sym (judged (k .before .before .before) j h ∙ verdict-steps _ _ _ _ _ _ (λ q. c .if2 .taken (k .steps .ensures ∙ q)))
 
-judge-requires : tie.Need-judge-requires
-judge-requires c κs = judged-held (c .before .before .before .before .before .before .before .before .before .before .before .pre .1)
+judge-unsorted-requires : tie.Need-judge-unsorted-requires
+judge-unsorted-requires c κs = judged-held (c .before .before .before .before .before .before .before .before .before .before .before .pre .1)
 
 returns-3 : tie.Need-returns-3
 returns-3 c = λ j h.
     let m = c .before in
     let e₂ = m .before .before in
-    sym (judged (first-of e₂) j h ∙ verdict-costs _ _ _ _ _ _ (steps-pass e₂) (sym (m .judge .ensures _ (paths-held h)) ∙ not-true _ (c .if3 .taken)))
+    sym (judged (first-of e₂) j h ∙ verdict-costs _ _ _ _ _ _ (steps-pass e₂) (sym (m .judge-unsorted .ensures _ (paths-held h)) ∙ not-true _ (c .if3 .taken)))
 
 pairs-hold-requires : tie.Need-pairs-hold-requires
 pairs-hold-requires c κs =
@@ -186,7 +186,7 @@ certify-spec =
     cast-steps
     steps-requires
     returns-2
-    judge-requires
+    judge-unsorted-requires
     returns-3
     pairs-hold-requires
     returns-4

@@ -16,17 +16,17 @@ bytes t i = t .before .before .shared-slice-known .given i .fits
 read-job-requires : tie.Need-read-job-requires
 read-job-requires c κs = search needs
 
-refused-requires : tie.Need-refused-requires
-refused-requires c κs = search needs
+refused-copy-requires : tie.Need-refused-copy-requires
+refused-copy-requires c κs = search needs
 
 returns : tie.Need-returns
 returns c =
     let t = c .before .before in
     let a = t .before .before .before .args in
-    job-refused (a .frame .now) (a .links .now) (t .read-job .result) (t .read-job .ensures) (c .before .if1 .taken) _ (c .refused .ensures)
+    job-refused (a .frame .now) (a .links .now) (t .read-job .result) (t .read-job .ensures) (c .before .if1 .taken) _ (c .refused-copy .ensures)
 
-refused-requires-2 : tie.Need-refused-requires-2
-refused-requires-2 c κs = search needs
+refused-copy-requires-2 : tie.Need-refused-copy-requires-2
+refused-copy-requires-2 c κs = search needs
 
 returns-2 : tie.Need-returns-2
 returns-2 c =
@@ -34,7 +34,7 @@ returns-2 c =
     let t = e .before in
     let a = t .before .before .before .args in
     let short : length (a .links .now) < 4 * t .read-job .result .count = omega (arith, c .before .if2 .taken) in
-    job-unfit (a .frame .now) (a .links .now) (t .read-job .result) (t .read-job .ensures) (e .if1 .left) short _ (c .refused2 .ensures)
+    job-unfit (a .frame .now) (a .links .now) (t .read-job .result) (t .read-job .ensures) (e .if1 .left) short _ (c .refused-copy2 .ensures)
 
 -- the array is long enough
 fits : (e : tie.Else2) → 4 * e .before .before .read-job .result .count ≤ length (e .before .before .before .before .before .args .links .now)
@@ -63,9 +63,9 @@ copy-job-spec =
     tie.close
     (tie.spec
     read-job-requires
-    refused-requires
+    refused-copy-requires
     returns
-    refused-requires-2
+    refused-copy-requires-2
     returns-2
     copy-links-requires
     same-length

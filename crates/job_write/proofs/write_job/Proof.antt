@@ -25,8 +25,8 @@ start k = k .before .before .before .before
 listed : (k : tie.After-list-numbers) → bytesOf (numbersAt (4 * start k .args .edges + 2) (k .list-numbers .last .1 .1 .1 .1 .1 .1 .0)) ≡ frame (start k)
 listed k = ap bytesOf (k .list-numbers .ensures .1)
 
-sized : (k : tie.After-size) → k .size .result ≡ length (frame (start (k .before .before)))
-sized k = k .size .ensures ∙ ap length (listed (k .before .before))
+sized : (k : tie.After-numbers-size) → k .numbers-size .result ≡ length (frame (start (k .before .before)))
+sized k = k .numbers-size .ensures ∙ ap length (listed (k .before .before))
 
 refused-requires : tie.Need-refused-requires
 refused-requires c κs = search needs
@@ -45,11 +45,11 @@ mul-count c = omega (arith, start c .pre (c .before .before .if1 .left))
 add-count : tie.Need-add-count
 add-count c = omega (arith, start c .pre (c .before .before .if1 .left))
 
-slice-aggregate-size : tie.Need-slice-aggregate-size
-slice-aggregate-size c = search needs
+slice-aggregate-numbers-size : tie.Need-slice-aggregate-numbers-size
+slice-aggregate-numbers-size c = search needs
 
-size-requires : tie.Need-size-requires
-size-requires c κs = omega (arith, start (c .before) .pre (c .before .before .before .if1 .left), c .before .list-numbers .ensures .0)
+numbers-size-requires : tie.Need-numbers-size-requires
+numbers-size-requires c κs = omega (arith, start (c .before) .pre (c .before .before .before .if1 .left), c .before .list-numbers .ensures .0)
 
 refused-requires-2 : tie.Need-refused-requires-2
 refused-requires-2 c κs = search needs
@@ -74,14 +74,14 @@ returns-3 c =
     rw (c .refused3 .ensures)
     (put-short (s .args .refusal) (frame s) (s .args .at) (s .args .area .now) (k .before .before .before .before .if1 .left) (omega (arith, sized k)))
 
-slice-aggregate-write : tie.Need-slice-aggregate-write
-slice-aggregate-write c = search needs
+slice-aggregate-write-numbers : tie.Need-slice-aggregate-write-numbers
+slice-aggregate-write-numbers c = search needs
 
-write-requires : tie.Need-write-requires
-write-requires c κs =
+write-numbers-requires : tie.Need-write-numbers-requires
+write-numbers-requires c κs =
     let k = c .before .before .before .before in
     let few = start (k .before .before) .pre (k .before .before .before .before .if1 .left) in
-    (omega (arith, few, k .before .before .list-numbers .ensures .0), omega (arith, k .size .ensures))
+    (omega (arith, few, k .before .before .list-numbers .ensures .0), omega (arith, k .numbers-size .ensures))
 
 same-length : tie.Need-same-length
 same-length c = search needs
@@ -92,7 +92,7 @@ returns-4 c =
     let k = w .before .before .before .before .before in
     let s = start (k .before .before) in
     put-whole (s .args .refusal) (frame s) (s .args .at) (s .args .area .now) _ _ (k .before .before .before .before .if1 .left)
-    (omega (arith, sized k)) (sized k) (w .write .ensures .area ∙ ap (sets (s .args .area .now) (s .args .at)) (listed (k .before .before)))
+    (omega (arith, sized k)) (sized k) (w .write-numbers .ensures .area ∙ ap (sets (s .args .area .now) (s .args .at)) (listed (k .before .before)))
 
 pub write-job-spec : {M : Type 1} → statement M
 write-job-spec =
@@ -103,14 +103,14 @@ write-job-spec =
     list-numbers-requires
     mul-count
     add-count
-    slice-aggregate-size
-    size-requires
+    slice-aggregate-numbers-size
+    numbers-size-requires
     refused-requires-2
     returns-2
     sub-if3
     refused-requires-3
     returns-3
-    slice-aggregate-write
-    write-requires
+    slice-aggregate-write-numbers
+    write-numbers-requires
     same-length
     returns-4)

@@ -16,15 +16,15 @@ bytes t i = t .before .before .before .before .before .before .before .shared-sl
 accept-requires : tie.Need-accept-requires
 accept-requires c κs = search needs
 
-refused-requires : tie.Need-refused-requires
-refused-requires c κs = search needs
+refused-read-requires : tie.Need-refused-read-requires
+refused-read-requires c κs = search needs
 
 returns : tie.Need-returns
 returns c =
     let t = c .before .before in
     let s = t .before .before .before .before .before .before .before .before .args .frame .now in
     let h = t .accept .result in
-    job-given s (bytes t) _ (c .refused .ensures ∙
+    job-given s (bytes t) _ (c .refused-read .ensures ∙
     given-refused (refusal s) (h .refusal) (jobOf s) (accepted-number s h (t .accept .ensures .0)) (c .before .if1 .taken))
 
 cast-t17 : tie.Need-cast-t17
@@ -46,4 +46,4 @@ returns-2 c =
 
 pub read-job-spec : {M : Type 1} → statement M
 read-job-spec =
-    tie.close (tie.spec accept-requires refused-requires returns cast-t17 gather-requires returns-2)
+    tie.close (tie.spec accept-requires refused-read-requires returns cast-t17 gather-requires returns-2)

@@ -1,4 +1,4 @@
--- `codec::size` meets its contract. The loop's invariant: the size of the numbers passed. Assumes nothing.
+-- `codec::numbers_size` meets its contract. The loop's invariant: the size of the numbers passed. Assumes nothing.
 use Prim.Native.Nat.{ℕ, _-_, _≤_}
 use mathlib.Core.Path.{_≡_, refl}
 use mathlib.Core.List.{flatMap}
@@ -12,8 +12,8 @@ use Rattle.limits.specs.Limits.{numberBytes}
 use Rattle.frame.specs.Job.{bytesOf}
 use Rattle.codec.specs.Numbers.{numbersAt}
 use Rattle.codec.specs.ListLaws.{size-more, size-short}
-use Rattle.codec.proofs.size.Statement.{statement}
-use Rattle.codec.proofs.size.Tie as tie
+use Rattle.codec.proofs.numbers_size.Statement.{statement}
+use Rattle.codec.proofs.numbers_size.Tie as tie
 
 abbrev Inv-loop : tie.InvT-loop
 Inv-loop values count total₀ i₀ total i = (i ≤ count) × (total ≡ length (bytesOf (numbersAt i values)))
@@ -60,8 +60,8 @@ returns c =
     let all : l .loop .i ≡ l .before .before .args .count = omega arith in
     rw all at (l .loop .inv .1)
 
-pub size-spec : {M : Type 1} → statement M
-size-spec =
+pub numbers-size-spec : {M : Type 1} → statement M
+numbers-size-spec =
     tie.close
     (tie.spec
     Inv-loop

@@ -1,4 +1,4 @@
--- `codec::read` meets its contract. The loop's invariant: the model, run on the numbers that are left, gives what it gives
+-- `codec::read_numbers` meets its contract. The loop's invariant: the model, run on the numbers that are left, gives what it gives
 -- on all of them. Assumes nothing.
 use Prim.Native.Nat.{_-_, _≤_}
 use mathlib.Core.Path.{_≡_, refl, sym, _∙_}
@@ -9,8 +9,8 @@ use Rattle.loops.specs.Loop.{scan}
 use Rattle.loops.specs.ScanLaws.{scan-start, scan-end}
 use Rattle.codec.specs.Numbers.{loadedAt, load, loaded}
 use Rattle.codec.specs.ListLaws.{number-turn}
-use Rattle.codec.proofs.read.Statement.{statement}
-use Rattle.codec.proofs.read.Tie as tie
+use Rattle.codec.proofs.read_numbers.Statement.{statement}
+use Rattle.codec.proofs.read_numbers.Tie as tie
 
 abbrev Inv-loop : tie.InvT-loop
 Inv-loop s at values₀ count next₀ i₀ values next i =
@@ -50,8 +50,8 @@ same-length c = c .before .loop .inv .2
 returns : tie.Need-returns Inv-loop μ-loop
 returns c = sym (scan-end _ _ _ _ (c .loop-test .left)) ∙ c .before .loop .inv .1
 
-pub read-spec : {M : Type 1} → statement M
-read-spec =
+pub read-numbers-spec : {M : Type 1} → statement M
+read-numbers-spec =
     tie.close
     (tie.spec
     Inv-loop

@@ -1,4 +1,4 @@
--- `codec::write` meets its contract. The loop's invariant: the numbers passed are put, one behind the other.
+-- `codec::write_numbers` meets its contract. The loop's invariant: the numbers passed are put, one behind the other.
 -- Assumes nothing.
 use Prim.Native.Nat.{ℕ, _+_, _-_, _≤_}
 use mathlib.Core.Path.{_≡_, refl, sym, ap, subst, _∙_}
@@ -14,8 +14,8 @@ use Rattle.frame.specs.Job.{bytesOf}
 use Rattle.codec.specs.Numbers.{numbersAt, Put}
 use Rattle.codec.specs.ListLaws.{bytes-more, size-more, size-within}
 use Rattle.codec.specs.WritingLaws.{put-more, put-room}
-use Rattle.codec.proofs.write.Statement.{statement}
-use Rattle.codec.proofs.write.Tie as tie
+use Rattle.codec.proofs.write_numbers.Statement.{statement}
+use Rattle.codec.proofs.write_numbers.Tie as tie
 
 abbrev Inv-loop : tie.InvT-loop
 Inv-loop area₀ at values count next₀ i₀ area next i = (i ≤ count) × Put area₀ at (bytesOf (numbersAt i values)) next area
@@ -72,8 +72,8 @@ returns c =
     let all : l .loop .i ≡ l .before .before .before .args .count = omega arith in
     rw all at (l .loop .inv .1)
 
-pub write-spec : {M : Type 1} → statement M
-write-spec =
+pub write-numbers-spec : {M : Type 1} → statement M
+write-numbers-spec =
     tie.close
     (tie.spec
     Inv-loop
