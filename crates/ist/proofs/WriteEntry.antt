@@ -39,7 +39,7 @@ use denote.Slice.{sliceVal, sliceTy, slice-vals, ShrSlice, MutSlice, finally, sh
 use denote.Steps.{owned, nothing}
 use denote.Triple.Statement.{Contract, Triple}
 use denote.Triple.Entry.{onEntry, Args, Vals}
-use denote.Triple.Spec.{Meets, tripleOf}
+use denote.Triple.Spec.{Meets}
 use denote.Triple.Walked.{says, Stays, stay-none, stay-none-slice, gave-slice, gave-ref, walkOf, goes-none}
 use denote.Triple.Walked.{goes-none-slice, goes-gave-slice, goes-gave-ref, Walks, ends-at, walked, walk-meets}
 use denote.Exit.{yes}
@@ -48,7 +48,7 @@ use Rattle.records.specs.declared.Link.{Link}
 use Rattle.records.specs.Records.{listCopy}
 use Rattle.records.proofs.ListCopy.Laws as C′
 use Rattle.records.proofs.LinkRows.{R, word, slice, gone}
-use Rattle.records.proofs.Told.{calls-told}
+use Rattle.records.proofs.Told.{ContractOf, calls-told}
 use Rattle.codes.specs.Exports.{Of}
 use Rattle.ist.proofs.Lent.{Copy, S, Own, calls-copy, copy-typed, copy-makes}
 use Rattle.records.proofs.copy_list.Symbol.{name as #records·copy-list}
@@ -129,7 +129,7 @@ stayed = (
 module _ {M : Type 1} (𝓤 : URA M) (H : Heap 𝓤) (A : Atoms 𝓤) (Φ : Says) where
   -- the contract of `core`
   abbrev pub Core : Contract 𝓤
-  Core = tripleOf 𝓤 H A (core .signature) (closing 𝓤 H A core (says-core 𝓤 Φ))
+  Core = ContractOf 𝓤 H A core (says-core 𝓤 Φ)
 
 module _ {M : Type 1} (𝓤 : URA M) (H : Heap 𝓤) (A : Atoms 𝓤) (W : Given 𝓤 H A) (Φ : Says) (mem : Memory → SProp 𝓤) (run : Routine → Fun 𝓤) (κ κ₁ κ₂ : Lft)
     (q q₁ q₂ : Share) (n : ℕ) (s : RefT (List Link)) (x : RefT (List ℕ)) (w : RefT ℕ) where

@@ -11,6 +11,10 @@ use Rattle.reading.specs.declared.JobRead.{JobRead}
 use Rattle.reading.specs.declared.AnswerRead.{AnswerRead}
 use Rattle.text.specs.Text.{totalWord, refusedWord, wordLine, costLines, pairLines, answerText}
 
+-- The room for a text, in bytes: enough for every one (`lines-fit`).
+abbrev pub textMost : ℕ
+textMost = 20480
+
 -- The text of the answer to an accepted job; else one line, with the number of the first question whose answer is "no".
 abbrev pub printed : List ℕ → List ℕ
 printed s = choose (eqb (refusal s) 0) (λ _. answerText (jobOf s) (answerOf (jobOf s))) (λ _. wordLine refusedWord (refusal s))

@@ -35,7 +35,7 @@ use Rattle.reading.specs.AnswersRead.{answerRead, readOf, AnswerGiven}
 use Rattle.reading.specs.AnswerReadLaws.{pairs-most, pairs-back, read-some}
 use Rattle.text.specs.Text.{totalWord, refusedWord, wordLine, costLine, costLines, pairLine, pairLines, answerText}
 use Rattle.text.specs.TextLaws.{lines-same, word-line-most, cost-lines-most, pair-lines-most}
-use Rattle.printing.specs.Printed.{printed, linesOf}
+use Rattle.printing.specs.Printed.{textMost, printed, linesOf}
 
 -- The lines of an accepted job and its answer, read into arrays.
 module _ (j : Job) (k : length (j .links) ≤ 256) (a : Answer) (few : length (a .pairs) ≤ 64) where
@@ -118,7 +118,7 @@ module _ (s : List ℕ) (b : Bytes s) (area : List ℕ) (room : length area ≡ 
           shown (sym number ∙ z)
 
 -- A buffer of 20,480 bytes is long enough.
-pub lines-fit : (j : JobRead) (a : AnswerRead) → j .count ≤ 256 → a .count ≤ 64 → length (linesOf j a) ≤ 20480
+pub lines-fit : (j : JobRead) (a : AnswerRead) → j .count ≤ 256 → a .count ≤ 64 → length (linesOf j a) ≤ textMost
 lines-fit j a k few =
     let total : List ℕ = wordLine totalWord (a .steps) in
     let costs : List ℕ = costLines (j .count) (λ e. getD (j .links) e zeroLink .cost) (λ e. getD (a .costs) e 0) in

@@ -4,16 +4,19 @@ ghost use mathlib.Core.Path.{_≡_};
 ghost use lib.ListN.{length, take};
 ghost use Rattle.io.specs.Counts.{Counts};
 ghost use Rattle.codec.specs.Numbers.{Put};
-ghost use Rattle.printing.specs.Printed.{printed, linesOf};
+ghost use Rattle.printing.specs.Printed.{textMost, printed, linesOf};
 use limits::ANSWER_MOST;
 use reading::AnswerRead;
 use reading::JobRead;
+
+// The room that the buffer has to have, in bytes (`textMost`): enough for every text.
+pub const TEXT_MOST: usize = 20480;
 
 // Puts the lines of an answer into a buffer that is long enough for every answer, and gives where they end.
 fn put_answer(out: &mut [u8], job: JobRead, answer: AnswerRead) -> usize
     requires { ⌜ job .count ≤ 256 ⌝ }
     requires { ⌜ answer .count ≤ 64 ⌝ }
-    requires { ⌜ 20480 ≤ length (now out) ⌝ }
+    requires { ⌜ textMost ≤ length (now out) ⌝ }
     ensures { λ r. ⌜ Put (now (out .entry)) 0 (linesOf job answer) r (now (out .exit)) ⌝ }
 {
     let links = job.links;
@@ -26,7 +29,7 @@ fn put_answer(out: &mut [u8], job: JobRead, answer: AnswerRead) -> usize
 
 // Puts what is to be printed for a job frame into the buffer: the answer's lines, or one that names the refusal.
 pub fn put_reply(frame: &[u8], out: &mut [u8]) -> usize
-    requires { ⌜ 20480 ≤ length (now out) ⌝ }
+    requires { ⌜ textMost ≤ length (now out) ⌝ }
     ensures { λ r. ⌜ take r (now (out .exit)) ≡ printed (now (frame .entry)) ⌝ }
     ensures { λ r. ⌜ Counts r (now (out .exit)) ⌝ }
 {

@@ -1,4 +1,5 @@
 // Reads one job frame from standard input and prints the answer to it, or why it is refused.
+use printing::TEXT_MOST;
 
 // Has standard input ended? If not, reading stopped because it failed.
 fn ended() -> bool {
@@ -24,7 +25,7 @@ fn main() {
         io::write_all(2, b"settle: cannot read standard input\n");
         return;
     }
-    let mut out = [0u8; 20480];
+    let mut out = [0u8; TEXT_MOST];
     let length = printing::put_reply(&input[..n], &mut out);
     write(&out[..length]);
 }

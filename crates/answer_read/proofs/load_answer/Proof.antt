@@ -153,7 +153,8 @@ returns-6 c =
     let n = r .before .before .before .before in
     let s = first-of n .before .before .before .before in (
       answer-read _ _ (bytes (first-of n)) _ _ (steps (first-of n)) (part-of (first-of n)) (part-is (first-of n)) _ (counted n)
-          (r .before .before .if1 .left) _ _ _ (r .read-numbers .ensures) (k .number-at .result) (k .number-at .ensures) (e .if3 .left) (e .before .before .if2 .left)
+          (r .before .before .if1 .left) _ _ _ (r .read-numbers .ensures) (k .number-at .result) (k .number-at .ensures) (e .if3 .left)
+          (e .before .before .if2 .left)
           _ _ _ (c .read-numbers2 .ensures) (s .pre .1 .costs) (s .pre .1 .pairs) (s .pre .0),
       (
         e .before .before .if2 .left,
