@@ -9,14 +9,16 @@ import random
 import sys
 from pathlib import Path
 
-NODES, EDGES, COST_MOST = 64, 256, 16383
+NODES, EDGES = 64, 256
+# The largest cost of every file but `wide`: the largest number of two bytes.
+TWO_BYTES_MOST = 16383
 
 
 # Frames.
 
 
 def number(x):
-    return bytes([x]) if x < 128 else bytes([x % 128 + 128, x // 128])
+    return bytes([x]) if x < 128 else bytes([x % 128 + 128]) + number(x // 128)
 
 
 def frame_of(numbers):
@@ -78,7 +80,7 @@ def random_links(rng, nodes, edges, tree, tree_cost, spare_cost):
 
 def random_job(rng, nodes, edges):
     def cost():
-        return rng.randint(0, COST_MOST)
+        return rng.randint(0, TWO_BYTES_MOST)
 
     return random_links(rng, nodes, edges, random_tree(rng, nodes), cost, cost)
 
@@ -96,18 +98,27 @@ def full(rng):
     return job_frame(NODES, random_job(rng, NODES, EDGES))
 
 
+FULL_AGAIN = random.Random(full.__name__)
+
+
+def wide(rng):
+    """The next job of `full` with seven bits more to every cost."""
+    links = random_job(FULL_AGAIN, NODES, EDGES)
+    return job_frame(NODES, [[a, b, 128 * cost + rng.randrange(128), mark] for a, b, cost, mark in links])
+
+
 def level_job(rng, tree, tree_cost, spare_cost):
     links = random_links(rng, NODES, EDGES, tree(rng, NODES), lambda: tree_cost, lambda: spare_cost)
     return job_frame(NODES, links)
 
 
 def equal(rng):
-    cost = rng.randint(0, COST_MOST)
+    cost = rng.randint(0, TWO_BYTES_MOST)
     return level_job(rng, rng.choice([path_tree, star_tree, random_tree]), cost, cost)
 
 
 def twolevel(rng):
-    spare_cost, tree_cost = sorted(rng.sample(range(COST_MOST + 1), 2))
+    spare_cost, tree_cost = sorted(rng.sample(range(TWO_BYTES_MOST + 1), 2))
     return level_job(rng, rng.choice([path_tree, random_tree]), tree_cost, spare_cost)
 
 
@@ -139,7 +150,7 @@ def adversarial(rng):
     links += [[a, b, cost, 0] for a, b, cost in cheap]
     while len(links) < EDGES:
         a = rng.randrange(32)
-        links.append([a, rng.randint(a + 16, 63), rng.randint(9000, COST_MOST), 0])
+        links.append([a, rng.randint(a + 16, 63), rng.randint(9000, TWO_BYTES_MOST), 0])
     return job_frame(NODES, shuffled(rng, NODES, links) if rng.random() < 0.5 else links)
 
 
@@ -153,6 +164,7 @@ def sound(rng):
 
 
 def refused1(rng):
+    """Some are refused by 2 or 3: FF FF 01 is a number of three bytes."""
     frame = job_frame(*sound(rng))
     spoiled = rng.choice([b"\x80", b"\xff\xff\x01", b"\x85\x00"])
     if spoiled == b"\x80":
@@ -166,8 +178,8 @@ def refused2(rng):
     numbers = numbers_of(nodes, links)
     return rng.choice([
         frame_of(numbers[: rng.randint(0, 1)]),
-        frame_of([rng.choice([0, 65, 127, 128, COST_MOST])] + numbers[1:]),
-        frame_of([nodes, rng.randint(257, COST_MOST)] + numbers[2:]),
+        frame_of([rng.choice([0, 65, 127, 128, TWO_BYTES_MOST])] + numbers[1:]),
+        frame_of([nodes, rng.randint(257, TWO_BYTES_MOST)] + numbers[2:]),
     ])
 
 
@@ -176,13 +188,13 @@ def refused3(rng):
     numbers = numbers_of(nodes, links)
     if rng.random() < 0.1:
         return frame_of(numbers) + frame_of(rng.choice(links)) * rng.randint(2000, 40000)
-    return frame_of(rng.choice([numbers[: rng.randint(2, len(numbers) - 1)], numbers + [rng.randint(0, COST_MOST)]]))
+    return frame_of(rng.choice([numbers[: rng.randint(2, len(numbers) - 1)], numbers + [rng.randint(0, TWO_BYTES_MOST)]]))
 
 
 def refused4(rng):
     nodes, links = sound(rng)
     link = rng.choice(links)
-    link[rng.randrange(2)] = rng.randint(nodes, COST_MOST)
+    link[rng.randrange(2)] = rng.randint(nodes, TWO_BYTES_MOST)
     if rng.random() < 0.5:
         link[0] = link[1]
     return job_frame(nodes, links)
@@ -190,7 +202,7 @@ def refused4(rng):
 
 def refused5(rng):
     nodes, links = sound(rng)
-    rng.choice(links)[3] = rng.randint(2, COST_MOST)
+    rng.choice(links)[3] = rng.randint(2, TWO_BYTES_MOST)
     return job_frame(nodes, links)
 
 
@@ -211,7 +223,8 @@ def damaged(rng):
     return rng.choice([refused1, refused2, refused3, refused4, refused5, refused6])(rng)
 
 
-FILES = [(tiny, 1000), (medium, 100), (full, 100), (adversarial, 100), (equal, 100), (twolevel, 100), (damaged, 1000)]
+FILES = [(tiny, 1000), (medium, 100), (full, 100), (wide, 100), (adversarial, 100), (equal, 100), (twolevel, 100),
+         (damaged, 1000)]
 
 
 def main():

@@ -19,7 +19,7 @@ enum {
 /* An accepted job. Tree edges have ranks by falling cost, spares by rising cost; of equal costs the lower edge is first. */
 typedef struct {
     unsigned nodes, edges, trees, spares;
-    uint16_t number[PLAIN_NUMBERS];                /* the numbers of the frame */
+    uint32_t number[PLAIN_NUMBERS];                /* the numbers of the frame */
     uint8_t tree[PLAIN_EDGES], spare[PLAIN_EDGES]; /* the edge of each rank */
     uint64_t mask[PLAIN_NODES];                    /* for each node, the tree ranks on its path from node 0 */
     uint64_t row[PLAIN_NODES][PLAIN_WORDS];        /* for each tree rank, the spare ranks that cover it */

@@ -42,8 +42,8 @@ extern "C" {
     ) -> i32;
 }
 
-const JOB_MOST: usize = 1283;
-const ANSWER_MOST: usize = 768;
+const JOB_MOST: usize = 1539;
+const ANSWER_MOST: usize = 1025;
 const LINKS_MOST: usize = 256;
 const PAIRS_MOST: usize = 63;
 

@@ -37,7 +37,7 @@ extern "C" {
 #define IST_YES 0
 #define IST_NO (-1)
 
-/* Refusals: a number is not in shortest form of one or two bytes (in a list: it is above 16,383); */
+/* Refusals: a number is not in shortest form of one to three bytes (in a list: it is above 2,097,151); */
 #define IST_REFUSED_NUMBER 1
 /* the counts are not 1 to 64 stations and 0 to 256 links; */
 #define IST_REFUSED_COUNTS 2
@@ -53,8 +53,8 @@ extern "C" {
 #define IST_REFUSED_AREA 7
 
 /* The longest job frame and the longest answer frame, in bytes. */
-#define IST_JOB_MOST 1283
-#define IST_ANSWER_MOST 768
+#define IST_JOB_MOST 1539
+#define IST_ANSWER_MOST 1025
 /* The most links of a job, and the most pairs of an answer. */
 #define IST_LINKS_MOST 256
 #define IST_PAIRS_MOST 63
@@ -104,7 +104,7 @@ int32_t ist_read_answer(const uint8_t *job, size_t job_len, const uint8_t *answe
                         size_t *pair_count);
 
 /* The same on a list of links: exactly what the functions above say of the frame that holds the station count, the list's
- * length and its records in order; refusal 1 if one of these numbers is above 16,383. A judge's 0 is YES here too, and
+ * length and its records in order; refusal 1 if one of these numbers is above 2,097,151. A judge's 0 is YES here too, and
  * ist_find_cost_list judges the answer at each call. */
 int32_t ist_answer_list(uint32_t stations, const ist_link *links, size_t count, uint8_t *area, size_t area_len,
                         size_t *written);

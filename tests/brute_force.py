@@ -20,6 +20,10 @@ Answer = namedtuple("Answer", "steps costs pairs")
 # All best choices of costs, the lowest of them, and all best pairings that an answer may list.
 Solution = namedtuple("Solution", "steps best lowest pairings")
 
+# How many bytes a number may take, and how many the first of an answer; the largest number.
+NUMBER_BYTES, STEP_BYTES = 3, 4
+NUMBER_MOST = 128 ** NUMBER_BYTES - 1
+
 
 # Numbers: groups of seven bits, lowest group first, the top bit 1 in every byte but the last, shortest form only.
 
@@ -52,7 +56,7 @@ def number_of(piece, most):
 
 def numbers_of(frame):
     """The numbers into which the frame divides; None if it does not."""
-    values = [number_of(piece, 2) for piece in pieces(frame)]
+    values = [number_of(piece, NUMBER_BYTES) for piece in pieces(frame)]
     return None if None in values else values
 
 
@@ -81,7 +85,7 @@ def refusal(frame):
 def list_refusal(job):
     """The same for a job lent as a list of records."""
     values = [job.stations, len(job.links)] + [value for link in job.links for value in link]
-    if max(values) > 16383:
+    if max(values) > NUMBER_MOST:
         return 1
     if not 1 <= job.stations <= 64 or len(job.links) > 256:
         return 2
@@ -262,7 +266,7 @@ def right_answers(solution):
 
 def read_answer(job, frame):
     """What the frame holds; None if it is not laid out as an answer to the job."""
-    values = [number_of(piece, 2 if place else 3) for place, piece in enumerate(pieces(frame))]
+    values = [number_of(piece, NUMBER_BYTES if place else STEP_BYTES) for place, piece in enumerate(pieces(frame))]
     links = len(job.links)
     if None in values or len(values) < links + 2 or len(values) != links + 2 + 2 * values[links + 1]:
         return None
@@ -311,10 +315,10 @@ def random_tree(rng, stations):
 
 
 def random_job(rng, stations, links, top):
-    """A job of at most so many stations and links, with ties; some costs stand where a number gets its second byte."""
+    """A job of at most so many stations and links, with ties; some costs stand where a number gets another byte."""
     stations = rng.randint(2, stations)
     spares = max(rng.randint(0, links + 1 - stations) for _ in range(2))
-    base = rng.choice([0, 0, 0, 126, 16383 - top])
+    base = rng.choice([0, 0, 0, 126, 16382, NUMBER_MOST - top])
     tree = [Link(a, b, base + rng.randint(0, top), 1) for a, b in random_tree(rng, stations)]
     ends = [rng.sample(range(stations), 2) for _ in range(spares)]
     spare = [Link(a, b, base + rng.randint(0, rng.choice([1, top])), 0) for a, b in ends]
@@ -369,9 +373,10 @@ def wrong_links(rng, job):
     if kind == 0:
         links[e] = links[e]._replace(end1=links[e].end2)
     if kind == 1:
-        links[e] = links[e]._replace(**{rng.choice(["end1", "end2"]): job.stations + rng.randrange(2)})
+        wrong = rng.choice([job.stations, job.stations + 1, 16383, 16384, 65536 + links[e].end1, NUMBER_MOST])
+        links[e] = links[e]._replace(**{rng.choice(["end1", "end2"]): wrong})
     if kind == 2:
-        links[e] = links[e]._replace(mark=rng.choice([2, 3, 129]))
+        links[e] = links[e]._replace(mark=rng.choice([2, 3, 129, 16383, 16384, 65537, NUMBER_MOST]))
     if kind == 3:
         links[e] = links[e]._replace(mark=1 - links[e].mark)
     if kind == 4:
@@ -405,7 +410,7 @@ def made_elsewhere(rng, job, solution):
 def best_answers(rng, job, solution, pairs):
     """Some best choices, where they can be written: these are right. And costs of as many steps that are not best."""
     every = list(choices(old_costs(job), solution.steps)) if solution.steps <= 4 else solution.best
-    writable = [costs for costs in every if all(0 <= cost <= 16383 for cost in costs)]
+    writable = [costs for costs in every if all(0 <= cost <= NUMBER_MOST for cost in costs)]
     best = [costs for costs in writable if costs in solution.best]
     others = [costs for costs in writable if costs not in solution.best]
     made = [("best costs", costs) for costs in rng.sample(best, min(2, len(best)))]
@@ -417,7 +422,7 @@ def other_costs(rng, job, right):
     """Steps and costs that do not belong together, or are not the fewest."""
     old = old_costs(job)
     level = [max(old) for _ in old]
-    near = [max(0, min(16383, cost + rng.randint(-1, 1))) for cost in old]
+    near = [max(0, min(NUMBER_MOST, cost + rng.randint(-1, 1))) for cost in old]
     yield "steps one too many", right._replace(steps=right.steps + 1)
     yield "old costs, no pairs", Answer(0, old, ())
     yield "all costs the largest", right._replace(steps=steps_of(job, level), costs=level)

@@ -19,7 +19,7 @@ from pathlib import Path
 sys.dont_write_bytecode = True
 
 import brute_force as reference
-from brute_force import Answer, Job, Link, Solution
+from brute_force import NUMBER_MOST, Answer, Job, Link, Solution
 
 ROOT = Path(__file__).resolve().parent.parent
 STANDS_ON = "frame optimum graph number loops limits"
@@ -77,7 +77,19 @@ ROWS = {
     "41 00": 2,
     "00 00": 2,
     "80": 1,
-    "FF FF 01": 1,
+    "FF FF 01": 2,
+    "FF FF FF 01": 1,
+    "80 80 00": 1,
+    "82 80 04 00": 2,
+    "02 80 80 04": 2,
+    "02 01 80 80 04 01 05 01": 4,
+    "02 01 00 81 80 04 05 01": 4,
+    "02 01 00 01 05 80 80 01": 5,
+    "02 01 00 01 05 81 80 04": 5,
+    "02 01 00 01 80 80 01 01": ["00 80 80 01 00"],
+    "02 01 00 01 FF FF 7F 01": ["00 FF FF 7F 00"],
+    "02 01 00 01 80 80 80 01 01": 1,
+    "02 02 00 01 80 80 01 01 00 01 FF 7F 00": ["01 FF 7F FF 7F 01 00 01"],
     "01 01": 3,
     "02 81 02": 2,
     "02 81 02" + 257 * " 00 01 03 01": 2,
@@ -98,20 +110,22 @@ T1 = bytes.fromhex("03 03 00 01 05 01 01 02 04 01 00 02 02 00")
 T1_ANSWER = bytes.fromhex("03 04 04 04 01 00 02")
 T1_JUDGED = {"03 05 04 05 01 00 02": True, "04 03 03 03 01 00 02": False}
 
-# Jobs at the limits: 64 stations in a ring; 256 links; both, in a frame of 1,283 bytes.
+# Jobs at the limits: 64 stations in a ring; 256 links; both, in a frame of 1,539 bytes.
 RING = Job(64, [Link(i, i + 1, 5 + i % 3, 1) for i in reversed(range(63))] + [Link(0, 63, 6, 0)])
 FULL = Job(2, 100 * [Link(0, 1, 6, 0)] + [Link(1, 0, 4, 1)] + 154 * [Link(0, 1, 5, 0)] + [Link(0, 1, 3, 0)])
-LONGEST = Job(64, [Link(i, i + 1, 16383, 1) for i in range(63)] + [Link(0, 1 + i % 63, 16383, 0) for i in range(193)])
+LONGEST = Job(64, [Link(i, i + 1, NUMBER_MOST, 1) for i in range(63)] + [Link(0, 1 + i % 63, 16384, 0) for i in range(193)])
 
-# Steps of three bytes: too many for the reference to try every choice, but the answer is plain.
-FAR = Job(3, [Link(0, 1, 16383, 1), Link(0, 1, 0, 0), Link(1, 2, 16383, 1), Link(1, 2, 0, 0)])
-FAR_SOLUTION = Solution(32766, [(0, 0, 0, 0)], (0, 0, 0, 0), [((0, 1), (2, 3))])
+# Tree costs for steps of three bytes and of four: too many for the reference to try every choice, but the answer is plain.
+FAR_COSTS = (16383, NUMBER_MOST)
 
-# Jobs lent as lists: a number above 16,383 is refused first.
+# Jobs lent as lists: a number above 2,097,151 is refused first.
 LENT = [
     Job(2, [Link(0, 1, 16383, 1)]), Job(2, [Link(0, 1, 16384, 1)]), Job(16384, [Link(0, 0, 5, 2)]),
-    Job(2, [Link(16384, 0, 5, 1)]), Job(2, [Link(0, 16384, 5, 1)]), Job(2, [Link(0, 0, 5, 16384)]),
-    Job(0, []), Job(1, []), Job(64, []), Job(65, []), Job(16383, []),
+    Job(2, [Link(16384, 0, 5, 1)]), Job(2, [Link(0, 16384, 5, 1)]), Job(2, [Link(0, 1, 5, 16384)]),
+    Job(2, [Link(0, 1, 2097151, 1)]), Job(2, [Link(0, 1, 2097152, 1)]), Job(2097152, [Link(0, 0, 5, 2)]),
+    Job(2, [Link(2097151, 0, 5, 1)]), Job(2, [Link(0, 2097151, 5, 1)]), Job(2, [Link(0, 1, 5, 2097151)]),
+    Job(2, [Link(2097152, 0, 5, 1)]), Job(2, [Link(0, 2097152, 5, 1)]), Job(2, [Link(0, 0, 5, 2097152)]),
+    Job(0, []), Job(1, []), Job(64, []), Job(65, []), Job(16384, []), Job(2097151, []), Job(2097152, []),
     Job(2, [Link(0, 0, 5, 2)]), Job(2, [Link(0, 1, 5, 2)]), Job(2, [Link(0, 1, 5, 0)]), Job(2, 2 * [Link(0, 1, 5, 1)]),
     Job(4, [Link(0, 1, 5, 1), Link(1, 0, 5, 1), Link(2, 3, 5, 1)]),
     Job(2, 256 * [Link(0, 0, 5, 2)]), Job(2, 257 * [Link(0, 0, 5, 2)]),
@@ -290,26 +304,35 @@ def limit_jobs(probe):
         frame = reference.job_frame(job)
         assert probe.refusal(frame) == 0
         probe.own_frame(frame, reference.solve(job))
-    assert len(reference.job_frame(LONGEST)) == 1283 and probe.refusal(reference.job_frame(LONGEST)) == 0
-    far_job(probe)
+    assert len(reference.job_frame(LONGEST)) == 1539 and probe.refusal(reference.job_frame(LONGEST)) == 0
+    for cost in FAR_COSTS:
+        far_job(probe, cost)
     for job in LENT:
         probe.lent(job)
 
 
-def far_job(probe):
-    frame = reference.job_frame(FAR)
-    right = reference.right_answers(FAR_SOLUTION)[0]
-    assert probe.refusal(frame) == 0 and reference.judge_answer(FAR, right)
-    probe.own_answer(frame, FAR_SOLUTION)
-    probe.answers(frame, FAR, {right: "right", **far_answers(right)})
+def far_job(probe, cost):
+    """Two tree links of that cost, and a spare of cost 0 beside each."""
+    job = Job(3, [Link(0, 1, cost, 1), Link(0, 1, 0, 0), Link(1, 2, cost, 1), Link(1, 2, 0, 0)])
+    solution = Solution(2 * cost, [(0, 0, 0, 0)], (0, 0, 0, 0), [((0, 1), (2, 3))])
+    frame = reference.job_frame(job)
+    right = reference.right_answers(solution)[0]
+    assert probe.refusal(frame) == 0 and reference.judge_answer(job, right)
+    probe.own_answer(frame, solution)
+    probe.answers(frame, job, {right: "right", **far_answers(solution, right)})
 
 
-def far_answers(right):
-    """The right answer with steps one too few, steps of four bytes, or a cost of three."""
-    few = reference.answer_frame(Answer(FAR_SOLUTION.steps - 1, FAR_SOLUTION.lowest, FAR_SOLUTION.pairings[0]))
-    long_steps = right[:2] + bytes([right[2] | 128, 0]) + right[3:]
-    long_cost = right[:3] + bytes([128, 128, 1]) + right[4:]
-    return {few: "steps one too few", long_steps: "steps of four bytes", long_cost: "a cost of three bytes"}
+def far_answers(solution, right):
+    """The right answer with steps one too few, steps a byte longer, or a first cost of three or four bytes."""
+    few = reference.answer_frame(Answer(solution.steps - 1, solution.lowest, solution.pairings[0]))
+    steps, costs = reference.pieces(right)[0], right[len(reference.pieces(right)[0]):]
+    return {
+        few: "steps one too few",
+        bytes([*steps[:-1], steps[-1] | 128, 0]) + costs: "steps a byte longer",
+        steps[:-1] + bytes([steps[-1] | 128, 1]) + costs: "steps a byte longer and more",
+        steps + bytes([128, 128, 1]) + costs[1:]: "a cost of three bytes",
+        steps + bytes([128, 128, 128, 1]) + costs[1:]: "a cost of four bytes",
+    }
 
 
 def chosen_jobs(rng, wanted):

@@ -18,10 +18,12 @@ from pathlib import Path
 sys.dont_write_bytecode = True
 
 import brute_force as reference
-from brute_force import Answer, Job, Link
+from brute_force import NUMBER_MOST, Answer, Job, Link
 
 PROGRAM = os.environ.get("SETTLE") or str(Path(__file__).resolve().parent.parent / "target/bin/settle")
 LONGEST_INPUT = 65536
+# Ranges of costs: one byte, two, three. Each leaves room above the least costs of reference.random_job.
+COST_TOPS = [1, 3, 60, 16257, NUMBER_MOST - 16382]
 
 # The rows of document 01 that a program without an answer area can run: a job frame, and its answer frame or its refusal.
 ROWS = {
@@ -37,7 +39,17 @@ ROWS = {
     "65 stations": ("41 00", 2),
     "no station": ("00 00", 2),
     "80 alone": ("80", 1),
-    "three bytes": ("FF FF 01", 1),
+    "three bytes": ("FF FF 01", 2),
+    "four bytes": ("FF FF FF 01", 1),
+    "00 as the third byte": ("80 80 00", 1),
+    "an end of three bytes": ("02 01 80 80 04 01 05 01", 4),
+    "another end of three bytes": ("02 01 00 81 80 04 05 01", 4),
+    "a mark of three bytes": ("02 01 00 01 05 81 80 04", 5),
+    "a cost of 16,384": ("02 01 00 01 80 80 01 01", "00 80 80 01 00"),
+    "a cost of 2,097,151": ("02 01 00 01 FF FF 7F 01", "00 FF FF 7F 00"),
+    "a cost of 2,097,152": ("02 01 00 01 80 80 80 01 01", 1),
+    "2,097,152 steps": ("03 04 00 01 FF FF 7F 01 00 01 00 00 01 02 01 01 01 02 00 00",
+                        "80 80 80 01 00 00 00 00 02 00 01 02 03"),
     "links missing": ("01 01", 3),
     "257 links": ("02 81 02" + " 00 01 05 01" + " 00 01 05 00" * 256, 2),
 }
@@ -190,33 +202,42 @@ def chain_job(rng):
     return job if rng.random() < 0.5 else Job(job.stations, rng.sample(job.links, len(job.links)))
 
 
+def steep_job(low):
+    """A path of 63 tree links of the largest cost, each with a spare of that low cost beside it."""
+    tree = [Link(i, i + 1, NUMBER_MOST, 1) for i in range(63)]
+    spare = [Link(i, i + 1, low, 0) for i in range(63)]
+    return Job(64, [Link(0, 1, NUMBER_MOST, 0)] * 130 + spare + tree)
+
+
 def large_job(rng):
     kind = rng.choice(["middle", "middle", "chains", "full"])
     if kind == "middle":
-        stations, links, top = rng.choice([8, 16, 64]), rng.choice([63, 128, 256]), rng.choice([1, 3, 60, 16257])
+        stations, links, top = rng.choice([8, 16, 64]), rng.choice([63, 128, 256]), rng.choice(COST_TOPS)
         return kind, reference.random_job(rng, stations, links, top)
-    return kind, chain_job(rng) if kind == "chains" else full_job(rng, rng.choice([1, 100, 16383]))
+    return kind, chain_job(rng) if kind == "chains" else full_job(rng, rng.choice([1, 100, 16383, NUMBER_MOST]))
 
 
 def bad_frame(rng):
     """A kind of damage and a frame with it. Some are jobs all the same."""
-    job = reference.random_job(rng, *rng.choice([(4, 6, 4), (4, 6, 200), (12, 30, 16257)]))
+    job = reference.random_job(rng, *rng.choice([(4, 6, 4), (4, 6, 200), (12, 30, 16257), (12, 30, COST_TOPS[-1])]))
     frame = reference.job_frame(job)
     parts = reference.pieces(frame)
     place = rng.randrange(len(parts))
-    value = reference.number_of(parts[place], 2)
+    value = reference.number_of(parts[place], reference.NUMBER_BYTES)
+    numbers = [0, 1, 2, 63, 64, 65, 128, 256, 257, 16383, 16384, 65536, 65537, NUMBER_MOST]
+    zeros = rng.choice([[0], [128, 0]])
     before, after = b"".join(parts[:place]), b"".join(parts[place + 1:])
     kinds = {
         "cut off": lambda: frame[:rng.randrange(len(frame))],
         "bytes behind": lambda: frame + bytes(rng.choice([0, 1, 128, 255]) for _ in range(rng.randint(1, 5))),
         "bytes damaged": lambda: reference.damaged(rng, reference.damaged(rng, frame) or frame),
         "byte changed": lambda: reference.damaged(rng, frame),
-        "not shortest": lambda: before + bytes([*parts[place][:-1], parts[place][-1] | 128, 0]) + after,
-        "above two bytes": lambda: before + reference.write_number(value + rng.choice([16384, 2 ** 21, 2 ** 64])) + after,
-        "another number": lambda: before + reference.write_number(rng.choice([0, 1, 2, 63, 64, 65, 256, 257, 16383])) + after,
+        "not shortest": lambda: before + bytes([*parts[place][:-1], parts[place][-1] | 128, *zeros]) + after,
+        "above three bytes": lambda: before + reference.write_number(value + 2 ** rng.choice([21, 28, 64])) + after,
+        "another number": lambda: before + reference.write_number(rng.choice(numbers)) + after,
         "number missing": lambda: before + after,
-        "another count": lambda: reference.write_numbers([rng.choice([0, job.stations, 64, 65, 128, 16383]),
-                                                          rng.choice([0, len(job.links) + 1, 256, 257, 16383])]) + frame[2:],
+        "another count": lambda: reference.write_numbers([rng.choice([*numbers, job.stations]),
+                                                          rng.choice([*numbers, len(job.links) + 1])]) + frame[2:],
         "wrong link": lambda: reference.wrong_links(rng, job),
         "two wrong links": lambda: reference.wrong_links(rng, reference.job_of(reference.wrong_links(rng, job))),
         "random bytes": lambda: bytes(rng.randrange(rng.choice([4, 256])) for _ in range(rng.randrange(20))),
@@ -263,6 +284,15 @@ def check_trap(right, wrong):
     return check
 
 
+def check_steps(wanted):
+    def check(frame):
+        number, steps = check_frame(frame)
+        if steps != wanted:
+            raise Different(f"{steps} steps, wanted {wanted}")
+        return number, steps
+    return check
+
+
 def check_too_long(frame):
     same(run(frame), "too long\n")
     return "too long", None
@@ -280,6 +310,8 @@ def runs(rng, wanted):
     for name, (row, right, wrong) in TRAPS.items():
         yield "trap: " + name, bytes.fromhex(row), check_trap(right, wrong)
     yield "document 01", bytes.fromhex("02 80 02" + " 00 01 05 01" + " 00 01 04 00" * 255), check_frame
+    for low in [0, 16384]:
+        yield "most steps, longest answer", reference.job_frame(steep_job(low)), check_steps(63 * (NUMBER_MOST - low))
     for filler, behind, alone in [(b"\x00", 3, 2), (b"\x01", 3, 3), (b"\x80", 1, 1), (b"\xff", 1, 1)]:
         yield "longest input", (first + filler * LONGEST_INPUT)[:LONGEST_INPUT], check_refused(behind)
         yield "longest input", filler * LONGEST_INPUT, check_refused(alone)

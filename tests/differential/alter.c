@@ -18,7 +18,7 @@ static void steps_fewer(const struct given *given, struct answer *answer)
 
 static void steps_long(const struct given *given, struct answer *answer)
 {
-    answer->steps = given->answer.steps + (1 << 21);
+    answer->steps = given->answer.steps + (pick(2) == 0 ? 1 << 21 : 1 << 28);
 }
 
 static void cost_changed(const struct given *given, struct answer *answer)
@@ -38,7 +38,7 @@ static void cost_and_steps_changed(const struct given *given, struct answer *ans
 static void cost_long(const struct given *given, struct answer *answer)
 {
     if (given->job->edges > 0)
-        answer->cost[pick((uint32_t)given->job->edges)] += COST_MOST + 1;
+        answer->cost[pick((uint32_t)given->job->edges)] += pick(2) == 0 ? 1 << 16 : COST_MOST + 1;
 }
 
 static void costs_highest(const struct given *given, struct answer *answer)
@@ -176,7 +176,7 @@ static void pair_turned(const struct given *given, struct answer *answer)
 static void pair_long(const struct given *given, struct answer *answer)
 {
     (void)given;
-    pick_pair(&answer->matching)->spare += 1 << 14;
+    pick_pair(&answer->matching)->spare += (uint32_t)1 << (14 + pick(8));
 }
 
 static void pair_past(const struct given *given, struct answer *answer)
@@ -270,7 +270,7 @@ static size_t replaced(const struct given *given, size_t place, bool longer, int
     uint8_t part[8];
     size_t part_length;
 
-    divide(given->frame, given->length, 3, &numbers);
+    divide(given->frame, given->length, STEP_BYTES, &numbers);
     part_length = put_number(part, numbers.value[place] + (uint32_t)change);
     if (longer) {
         part[part_length - 1] |= 128;
@@ -295,7 +295,7 @@ static size_t pair_count_changed(const struct given *given, uint8_t *to)
 {
     bool less = given->answer.matching.pairs > 0 && pick(2) == 0;
 
-    return replaced(given, given->job->edges + 1, false, less ? -1 : 1, to);
+    return replaced(given, given->job->edges + 1, false, less ? -1 : pick(2) == 0 ? 1 : 1 << 16, to);
 }
 
 static size_t pair_count_longer(const struct given *given, uint8_t *to)

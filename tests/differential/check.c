@@ -34,7 +34,7 @@ static void check_contents(void)
 {
     static struct numbers answer;
 
-    divide(given.frame, given.length, 3, &answer);
+    divide(given.frame, given.length, STEP_BYTES, &answer);
     if (!read_answer(&job, &answer, &given.answer))
         differ("ist_answer writes what is no answer frame");
     expect("steps", given.answer.steps, solution.steps);
@@ -123,7 +123,7 @@ static void check_finders(void)
     const uint32_t past[] = {edges, edges + 1, edges + 255, 256, 65536, (uint32_t)1 << 31, UINT32_MAX};
 
     lend_answer(given.frame, given.length);
-    divide(given.frame, given.length, 3, &answer);
+    divide(given.frame, given.length, STEP_BYTES, &answer);
     for (uint32_t link = pick(stride); link < edges; link += stride) {
         check_find_link(link);
         check_find_cost(link, &answer, true);
@@ -150,7 +150,7 @@ static void check_offer(const uint8_t *frame, size_t length)
     static struct numbers answer;
 
     lend_answer(frame, length);
-    divide(frame, length, 3, &answer);
+    divide(frame, length, STEP_BYTES, &answer);
     bool yes = refusal == 0 && judge_answer(&job, &answer);
     expect("ist_judge_answer", ist_judge_answer(lent.job, lent.job_length, lent.answer, lent.answer_length), verdict(yes));
     check_list_offer(verdict(yes));
@@ -235,7 +235,7 @@ static void check_lent(void)
 void check_frame(const uint8_t *frame, size_t length)
 {
     lend_job(frame, length);
-    divide(frame, length, 2, &numbers);
+    divide(frame, length, NUMBER_BYTES, &numbers);
     lend_records(&numbers);
     check_lent();
     if (memcmp(lent.job, frame, length) != 0)
@@ -248,7 +248,7 @@ void check_list(uint32_t nodes, const struct edge *edge, size_t count)
     size_t length = put_edges(frame, nodes, edge, count);
 
     lend_job(frame, length);
-    divide(frame, length, 2, &numbers);
+    divide(frame, length, NUMBER_BYTES, &numbers);
     lend_edges(nodes, edge, count);
     check_lent();
 }

@@ -21,7 +21,7 @@ void divide(const uint8_t *frame, size_t length, size_t first_most, struct numbe
     numbers->count = 0;
     numbers->start[0] = 0;
     for (size_t i = 0; i < length; i++) {
-        size_t most = numbers->count == 0 ? first_most : 2;
+        size_t most = numbers->count == 0 ? first_most : NUMBER_BYTES;
         value |= (uint32_t)(frame[i] & 127) << (7 * groups);
         groups++;
         if (frame[i] >= 128) {

@@ -33,7 +33,7 @@ static uint32_t pick_of(const uint32_t *value, size_t count)
 
 enum tree_shape { ANY_TREE, PATH, STAR, DEEP, TREE_SHAPES };
 enum spare_shape { ANY_SPARE, PARALLEL, SHORT, LONG, MIXED, SPARE_SHAPES };
-enum cost_shape { ANY_COST, FEW_COSTS, SECOND_BYTE, LIMITS, FALLING, TWO_COSTS, COST_SHAPES };
+enum cost_shape { ANY_COST, FEW_COSTS, ANOTHER_BYTE, LIMITS, FALLING, TWO_COSTS, COST_SHAPES };
 
 static uint32_t parent_place(enum tree_shape shape, uint32_t place)
 {
@@ -83,16 +83,19 @@ struct cost_range {
 
 static struct cost_range pick_costs(void)
 {
-    struct cost_range range = {(enum cost_shape)pick(COST_SHAPES), 0, COST_MOST};
+    struct cost_range range = {(enum cost_shape)pick(COST_SHAPES), 0, 0};
 
-    if (range.shape == FEW_COSTS || range.shape == TWO_COSTS)
+    range.top = PICK_OF(127, 16383, 16383, 16384, COST_MOST, COST_MOST);
+    if (range.shape == FEW_COSTS)
         range.top = PICK_OF(0, 1, 2, 3, 10);
-    if (range.shape == SECOND_BYTE) {
+    if (range.shape == TWO_COSTS)
+        range.top = PICK_OF(0, 1, 2, 3, 10, 16384, COST_MOST);
+    if (range.shape == ANOTHER_BYTE) {
         range.top = PICK_OF(2, 4, 100);
-        range.base = PICK_OF(124, 127, 128, 16383 - 100);
+        range.base = PICK_OF(124, 127, 128, 16383 - 100, 16382, 16384, COST_MOST - 100);
     }
     if (range.shape == FALLING)
-        range.top = PICK_OF(1, 2, 5, 300, COST_MOST);
+        range.top = PICK_OF(1, 2, 5, 300, 16383, COST_MOST);
     return range;
 }
 
@@ -100,7 +103,7 @@ static uint32_t pick_cost(const struct cost_range *range, uint32_t mark)
 {
     switch (range->shape) {
     case LIMITS:
-        return PICK_OF(0, 0, 1, COST_MOST - 1, COST_MOST, COST_MOST);
+        return PICK_OF(0, 0, 1, range->top - 1, range->top, range->top);
     case FALLING:
         return mark == 1 ? range->top - pick(range->top / 2 + 1) : pick(range->top / 2 + 1);
     case TWO_COSTS:
@@ -219,23 +222,32 @@ static uint32_t *pick_end(struct edge *edge)
     return pick(2) == 0 ? &edge->end1 : &edge->end2;
 }
 
+/* Where numbers get another byte, and numbers that end in the bits of a smaller one. */
+static uint32_t long_number(uint32_t value)
+{
+    return PICK_OF(16383, 16384, 16384 + value, 65536 + value, COST_MOST, COST_MOST + 1);
+}
+
 static void damage_edge(struct job *job, struct edge *edge)
 {
-    switch (pick(6)) {
+    switch (pick(7)) {
     case 0:
         edge->end1 = edge->end2;
         break;
     case 1:
-        *pick_end(edge) = PICK_OF(job->nodes, job->nodes + 1, NODES_MOST, 256, 16383);
+        *pick_end(edge) = PICK_OF(job->nodes, job->nodes + 1, NODES_MOST, 256, long_number(pick(job->nodes)));
         break;
     case 2:
         *pick_end(edge) = pick(job->nodes);
         break;
     case 3:
-        edge->mark = PICK_OF(2, 3, 128, 129, 256, 257, 16383);
+        edge->mark = PICK_OF(2, 3, 128, 129, 256, 257, long_number(edge->mark));
         break;
     case 4:
         edge->mark = 1 - edge->mark % 2;
+        break;
+    case 5:
+        edge->cost = long_number(edge->cost);
         break;
     default:
         swap_marks(edge, &job->edge[pick((uint32_t)job->edges)]);
@@ -245,7 +257,7 @@ static void damage_edge(struct job *job, struct edge *edge)
 void damage_job(struct job *job)
 {
     if (job->edges == 0 || pick(12) == 0)
-        job->nodes = PICK_OF(0, job->nodes + 1, job->nodes - 1, 64, 65, 128, 16383);
+        job->nodes = PICK_OF(0, job->nodes + 1, job->nodes - 1, 64, 65, 128, long_number(job->nodes));
     else
         damage_edge(job, &job->edge[pick((uint32_t)job->edges)]);
 }
@@ -274,25 +286,27 @@ static size_t damage_byte(const uint8_t *frame, size_t length, uint8_t *to)
     }
 }
 
-/* The number with a group of zeros behind it. */
-static size_t put_longer(uint8_t *to, uint32_t value)
+/* The number with groups of zeros behind it. */
+static size_t put_longer(uint8_t *to, uint32_t value, uint32_t groups)
 {
     size_t length = put_number(to, value);
 
-    to[length - 1] |= 128;
-    to[length] = 0;
-    return length + 1;
+    for (; groups > 0; groups--) {
+        to[length - 1] |= 128;
+        to[length++] = 0;
+    }
+    return length;
 }
 
 static size_t odd_number(uint8_t *to, uint32_t value)
 {
     switch (pick(4)) {
     case 0:
-        return put_longer(to, value);
+        return put_longer(to, value, 1 + pick(2));
     case 1:
-        return put_number(to, value + PICK_OF(16384, 1 << 21, 1 << 28));
+        return put_number(to, value + PICK_OF(16384, 65536, 1 << 21, 1 << 28));
     case 2:
-        return put_number(to, PICK_OF(0, 1, 2, 63, 64, 65, 127, 128, 255, 256, 257, 16383));
+        return put_number(to, PICK_OF(0, 1, 2, 63, 64, 65, 127, 128, 255, 256, 257, 16383, 16384, COST_MOST, COST_MOST + 1));
     default:
         return 0;
     }
@@ -321,7 +335,7 @@ size_t damage_frame(const uint8_t *frame, size_t length, uint8_t *to)
     static struct numbers numbers;
     uint32_t kind = pick(5);
 
-    divide(frame, length, 2, &numbers);
+    divide(frame, length, STEP_BYTES, &numbers);
     if (length == 0 || kind == 0)
         return append_bytes(frame, length, to);
     if (numbers.count == 0 || kind == 1)

@@ -12,8 +12,9 @@
 #include "generate.h"
 #include "lend.h"
 
-/* Bytes in front of an area that must keep their paint, and up to which length all area lengths are tried. */
-enum { FRONT = 16, SHORT_LENGTH = 40 };
+/* Bytes in front of an area that must keep their paint; up to which length all area lengths are tried; how many bytes of a
+ * frame are printed. */
+enum { FRONT = 16, SHORT_LENGTH = 40, PRINTED = 8192 };
 
 struct lent lent;
 size_t areas_tried;
@@ -87,9 +88,9 @@ ist_link *lend_links(uint32_t stations, size_t count)
 static void print_hex(const char *name, const uint8_t *bytes, size_t length)
 {
     printf("%s, %zu bytes:", name, length);
-    for (size_t i = 0; i < length; i++)
+    for (size_t i = 0; i < length && i < PRINTED; i++)
         printf(" %02x", bytes[i]);
-    printf("\n");
+    printf(length > PRINTED ? " ..\n" : "\n");
 }
 
 void differ(const char *format, ...)

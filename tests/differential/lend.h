@@ -5,7 +5,9 @@
 
 #include "ist.h"
 
-enum { JOB_ROOM = 1 << 20, LINKS_ROOM = 1 << 17, AREA_ROOM = 2048 };
+/* The longest list has a record more than the first that question 1 refuses by its length; a frame that holds it has little
+ * more than 4 bytes for each. */
+enum { LINKS_ROOM = (1 << 21) + 1, JOB_ROOM = 5 * LINKS_ROOM, AREA_ROOM = 2048 };
 
 /* What is lent at present; a difference is reported with it. */
 struct lent {

@@ -13,6 +13,8 @@
 
 #define COUNT_OF(array) (sizeof(array) / sizeof(array)[0])
 
+enum { LONG_LIST = 1 << 20 };
+
 static uint8_t frame[JOB_ROOM];
 static struct job job;
 
@@ -37,7 +39,7 @@ static void check_rows(void)
         expect_answer(rows[i].refusal, answer, from_hex(rows[i].answer, answer));
     }
     check_frame(frame, from_hex(thirteen, frame));
-    report("rows of document 01");
+    report("rows of document 01, and of numbers of three and four bytes");
 }
 
 /* Two stations and links between them, of which the first is the tree. */
@@ -71,6 +73,45 @@ static void check_short_frames(void)
     report("frames of 0 to 2 bytes: all");
 }
 
+/* All frames of few bytes that begin, continue and end numbers. */
+static void check_odd_bytes(void)
+{
+    const uint8_t odd[] = {0x00, 0x01, 0x02, 0x7f, 0x80, 0x81, 0xff};
+
+    for (size_t length = 3, frames = 343; length <= 5; length++, frames *= COUNT_OF(odd))
+        for (size_t which = 0; which < frames; which++) {
+            size_t left = which;
+            for (size_t i = 0; i < length; i++, left /= COUNT_OF(odd))
+                frame[i] = odd[left % COUNT_OF(odd)];
+            check_frame(frame, length);
+        }
+    report("frames of 3 to 5 bytes that are 00, 01, 02, 7f, 80, 81 or ff: all");
+}
+
+/* Links whose four numbers have three bytes each, and then each byte of the frame in turn changed: wherever a number stands,
+ * it is read and tested the same way. */
+static void check_long_numbers(void)
+{
+    const uint8_t odd[] = {0x00, 0x01, 0x7f, 0x80, 0xff};
+
+    job.nodes = 2;
+    job.edges = 40;
+    for (size_t e = 0; e < job.edges; e++)
+        job.edge[e] = (struct edge){16384, 65537, COST_MOST, 65536};
+    size_t length = put_job(frame, &job);
+    check_frame(frame, length);
+    expect_answer(4, frame, 0);
+    for (size_t place = 0; place < length; place++) {
+        uint8_t kept = frame[place];
+        for (size_t i = 0; i < COUNT_OF(odd); i++) {
+            frame[place] = odd[i];
+            check_frame(frame, length);
+        }
+        frame[place] = kept;
+    }
+    report("frames of numbers of three bytes, with a byte changed");
+}
+
 static void check_job(const struct job *made)
 {
     check_frame(frame, put_job(frame, made));
@@ -89,7 +130,7 @@ static void check_longest_jobs(void)
     for (size_t tried = 0; tried < 20; tried++) {
         random_job(&job, NODES_MOST, EDGES_MOST, true);
         for (size_t e = 0; e < EDGES_MOST; e++)
-            job.edge[e].cost |= 128;
+            job.edge[e].cost |= 16384;
         size_t length = put_job(frame, &job);
         expect("the longest job's length", (int64_t)length, IST_JOB_MOST);
         check_frame(frame, length);
@@ -97,7 +138,7 @@ static void check_longest_jobs(void)
         frame[length] = (uint8_t)pick(2);
         check_frame(frame, length + 1);
     }
-    report("jobs of 1,283 bytes, a byte less and a byte more");
+    report("jobs of 1,539 bytes, a byte less and a byte more");
 }
 
 /* A path of tree links at the end, a cheaper spare along each, and spares in front that are as dear. */
@@ -117,43 +158,57 @@ static void fill_longest_answer(uint32_t spare_cost)
 
 static void check_longest_answer(void)
 {
-    fill_longest_answer(128);
+    fill_longest_answer(16384);
     check_job(&job);
     expect("the longest answer's length", (int64_t)counts.answer_longest, IST_ANSWER_MOST);
     fill_longest_answer(0);
     check_job(&job);
+    expect("the most steps", (int64_t)counts.steps_most, (int64_t)COST_MOST * (NODES_MOST - 1));
     report("jobs of the longest answer and of most steps");
 }
 
-/* One byte all through; a row's job before it; one that begins a number behind it. */
+static void fill_frame(const char *filler, size_t length)
+{
+    uint8_t part[ROW_ROOM];
+    size_t size = from_hex(filler, part);
+
+    for (size_t i = 0; i < length; i++)
+        frame[i] = part[i % size];
+}
+
+/* One byte or one number all through; a row's job before it; one that begins a number behind it. */
 static void check_long_frames(void)
 {
-    const size_t lengths[] = {1282, 1283, 1284, 16384, 65536, 1000000};
-    const uint8_t fillers[] = {0x00, 0x01, 0x7f, 0x80, 0xff};
+    const size_t lengths[] = {1538, 1539, 1540, 16384, 65536, 1000000};
+    const char *const fillers[] = {"00", "01", "7F", "80", "FF", "FF 7F", "80 80 01", "FF FF FF 01"};
 
     for (size_t i = 0; i < COUNT_OF(lengths); i++)
         for (size_t j = 0; j < COUNT_OF(fillers); j++) {
-            memset(frame, fillers[j], lengths[i]);
+            fill_frame(fillers[j], lengths[i]);
             check_frame(frame, lengths[i]);
             from_hex(rows[0].job, frame);
             check_frame(frame, lengths[i]);
             frame[lengths[i] - 1] = 0x80;
             check_frame(frame, lengths[i]);
         }
-    report("frames of 1,282 to 1,000,000 bytes");
+    report("frames of 1,538 to 1,000,000 bytes");
 }
 
 /* Lists. */
 
-static const uint32_t odd_values[] = {16383, 16384, 32768, 65536, (uint32_t)1 << 24, (uint32_t)1 << 31, UINT32_MAX};
+static const uint32_t odd_values[] = {16383, 16384, 65536, COST_MOST, COST_MOST + 1, (uint32_t)1 << 24, (uint32_t)1 << 31,
+                                      UINT32_MAX};
+
+/* A record's first, second, third or fourth number. */
+static uint32_t *number_of(struct edge *edge, size_t place)
+{
+    return (uint32_t *[]){&edge->end1, &edge->end2, &edge->cost, &edge->mark}[place];
+}
 
 /* The number in the place, counted as the frame's but without the link count. */
 static uint32_t *number_at(struct job *in, size_t place)
 {
-    if (place == 0)
-        return &in->nodes;
-    struct edge *edge = &in->edge[(place - 1) / 4];
-    return (uint32_t *[]){&edge->end1, &edge->end2, &edge->cost, &edge->mark}[(place - 1) % 4];
+    return place == 0 ? &in->nodes : number_of(&in->edge[(place - 1) / 4], (place - 1) % 4);
 }
 
 /* The job's list with another number in one place. */
@@ -166,41 +221,52 @@ static void check_odd_list(size_t place, uint32_t value)
     *number = kept;
 }
 
-static void check_odd_places(void)
+/* Each odd value in each place, and added to what is there; or one of both. */
+static void check_odd_places(bool both)
 {
     for (size_t place = 0; place <= 4 * job.edges; place++)
         for (size_t i = 0; i < COUNT_OF(odd_values); i++) {
-            check_odd_list(place, odd_values[i]);
-            check_odd_list(place, odd_values[i] + *number_at(&job, place));
+            uint32_t there = *number_at(&job, place), first = pick(2) == 0 ? 0 : there;
+            check_odd_list(place, odd_values[i] + first);
+            if (both)
+                check_odd_list(place, odd_values[i] + (there - first));
         }
 }
 
-/* A list with a number too large in each place of one record. */
-static void check_large_number(struct edge *edge, size_t count, size_t record)
+/* A list with a number too large in one place of one record. */
+static void check_large_number(struct edge *edge, size_t count, size_t record, size_t place)
 {
-    uint32_t *number[] = {&edge[record].end1, &edge[record].end2, &edge[record].cost, &edge[record].mark};
+    uint32_t *number = number_of(&edge[record], place), kept = *number;
 
-    for (size_t i = 0; i < COUNT_OF(number); i++) {
-        uint32_t kept = *number[i];
-        *number[i] = COST_MOST + 1;
-        check_list(2, edge, count);
-        expect_answer(1, frame, 0);
-        *number[i] = kept;
-    }
+    *number = COST_MOST + 1;
+    check_list(2, edge, count);
+    expect_answer(1, frame, 0);
+    *number = kept;
 }
 
-/* Right but for the length; and with a number too large in the first record, in record 257, in the last. */
+/* The same in each place of the first record, of the last and of record 257; in a long list, which takes its time, only in
+ * its first place, its last and one of record 257, and only in its first if its length is too large too. */
+static void check_large_numbers(struct edge *edge, size_t count)
+{
+    const size_t record[] = {0, count - 1, EDGES_MOST}, place_if_long[] = {0, 3, 2};
+    size_t records = count > COST_MOST ? 1 : count > EDGES_MOST ? 3 : 2;
+
+    for (size_t i = 0; i < records; i++)
+        for (size_t place = 0; place < 4; place++)
+            if (count < LONG_LIST || place == place_if_long[i])
+                check_large_number(edge, count, record[i], place);
+}
+
+/* Right but for the length; and with a number too large. */
 static void check_list_lengths(void)
 {
     static struct edge edge[LINKS_ROOM];
-    const size_t tried[] = {1, 2, 255, 256, 257, 300, 512, 16383, 16384, 16385, 65536, 65538, LINKS_ROOM};
+    const size_t tried[] = {1, 2, 255, 256, 257, 300, 512, 16383, 16384, 16385, 65536, 65538,
+                            COST_MOST, COST_MOST + 1, COST_MOST + 2};
 
     fill_parallel(edge, LINKS_ROOM);
     for (size_t i = 0; i < COUNT_OF(tried); i++) {
-        check_large_number(edge, tried[i], 0);
-        check_large_number(edge, tried[i], tried[i] - 1);
-        if (tried[i] > EDGES_MOST)
-            check_large_number(edge, tried[i], EDGES_MOST);
+        check_large_numbers(edge, tried[i]);
         check_list(2, edge, tried[i]);
         if (tried[i] > EDGES_MOST)
             expect_answer(tried[i] > COST_MOST ? 1 : 2, frame, 0);
@@ -209,17 +275,21 @@ static void check_list_lengths(void)
 
 static void check_lists(void)
 {
-    const uint32_t stations[] = {0, 1, 2, 63, 64, 65, 256, 257, 16383, 16384, 16385, 65537, UINT32_MAX};
+    const uint32_t stations[] = {0, 1, 2, 63, 64, 65, 256, 257, 16383, 16384, 65537,
+                                 COST_MOST - 1, COST_MOST, COST_MOST + 1, COST_MOST + 2, UINT32_MAX};
 
-    for (size_t i = 0; i < COUNT_OF(stations); i++)
+    for (size_t i = 0; i < COUNT_OF(stations); i++) {
         check_list(stations[i], NULL, 0);
+        if (stations[i] > NODES_MOST)
+            expect_answer(stations[i] > COST_MOST ? 1 : 2, frame, 0);
+    }
     check_list_lengths();
     for (size_t tried = 0; tried < 30; tried++) {
         random_job(&job, 4, 6, false);
-        check_odd_places();
+        check_odd_places(true);
     }
     random_job(&job, NODES_MOST, EDGES_MOST, true);
-    check_odd_places();
+    check_odd_places(false);
     report("lists with odd lengths and numbers");
 }
 
@@ -365,6 +435,8 @@ int main(int argc, char **argv)
     check_rows();
     check_link_counts();
     check_short_frames();
+    check_odd_bytes();
+    check_long_numbers();
     check_small_jobs();
     check_longest_jobs();
     check_longest_answer();

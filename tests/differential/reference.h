@@ -11,7 +11,9 @@
 enum {
     NODES_MOST = 64,
     EDGES_MOST = 256,
-    COST_MOST = 16383,
+    NUMBER_BYTES = 3,
+    STEP_BYTES = 4,
+    COST_MOST = 2097151,
     NUMBERS_MOST = 2 + 4 * EDGES_MOST,
     PAIRS_MOST = 2 * NODES_MOST,
     ANSWER_ROOM = 4096,
@@ -60,7 +62,7 @@ struct solution {
     struct matching matching;
 };
 
-/* frame.c: `first_most` is how many bytes the first number may have; all others may have two. */
+/* frame.c: `first_most` is how many bytes the first number may have; all others may have NUMBER_BYTES. */
 void divide(const uint8_t *frame, size_t length, size_t first_most, struct numbers *numbers);
 size_t put_number(uint8_t *to, uint32_t value);
 size_t put_edges(uint8_t *to, uint32_t nodes, const struct edge *edge, size_t count);

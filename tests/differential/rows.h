@@ -1,11 +1,12 @@
-/* The bench rows of document 01: a job frame with its answer frame or its refusal. */
+/* The bench rows of document 01, and rows with numbers of three and four bytes: a job frame with its answer frame or its
+ * refusal. */
 #ifndef ROWS_H
 #define ROWS_H
 
 #include <stddef.h>
 #include <stdint.h>
 
-enum { ROW_ROOM = 64, ROWS = 15 };
+enum { ROW_ROOM = 64, ROWS = 28 };
 
 struct row {
     const char *name, *job;

@@ -34,7 +34,7 @@ static bool judged_yes(const struct answer *answer)
     static struct numbers numbers;
     static uint8_t frame[ANSWER_ROOM];
 
-    divide(frame, put_answer(frame, &job, answer), 3, &numbers);
+    divide(frame, put_answer(frame, &job, answer), STEP_BYTES, &numbers);
     return judge_answer(&job, &numbers);
 }
 
@@ -137,7 +137,7 @@ static void check_round_trip(void)
     static struct job again;
     uint8_t frame[2 * NUMBERS_MOST];
 
-    divide(frame, put_job(frame, &job), 2, &numbers);
+    divide(frame, put_job(frame, &job), NUMBER_BYTES, &numbers);
     require(read_job(&numbers, &again) == 0, "the job's frame is accepted");
     require(again.nodes == job.nodes && again.edges == job.edges &&
                 memcmp(again.edge, job.edge, job.edges * sizeof job.edge[0]) == 0,
@@ -169,7 +169,7 @@ static void read_row(const char *text, int refusal)
     static struct numbers numbers;
     uint8_t frame[ROW_ROOM];
 
-    divide(frame, from_hex(text, frame), 2, &numbers);
+    divide(frame, from_hex(text, frame), NUMBER_BYTES, &numbers);
     require(read_job(&numbers, &job) == refusal, text);
     if (refusal == 0)
         solve(&job, &solution);

@@ -6,33 +6,26 @@ ghost use lib.ListN.{length, set};
 ghost use Rattle.frame.specs.AnswerMeaning.{answerFrame};
 ghost use Rattle.frame.specs.Services.{written};
 ghost use Rattle.codec.specs.Numbers.{Put, outcome};
-ghost use Rattle.codec.specs.Held.{answerAt};
+ghost use Rattle.codec.specs.Held.{answerFront, answerAt};
 ghost use Rattle.answer.specs.Contents.{matePairs, PairsListed};
 use codec::Reply;
 use codec::refused;
 use ids::Edge;
 use limits::STEP_BYTES;
 
-// How many bytes the answer frame takes.
-fn answer_size(
-    steps: u32,
-    edges: usize,
-    costs: &[u32; 256],
-    count: usize,
-    pairs: &[u32; 128],
-) -> usize
+// How many bytes of the answer frame stand before its pairs.
+fn front_size(steps: u32, edges: usize, costs: &[u32; 256], count: usize) -> usize
     requires { ⌜ edges ≤ 256 ⌝ }
     requires { ⌜ count ≤ 64 ⌝ }
-    ensures { λ r. ⌜ r ≡ length (answerFrame (answerAt steps edges (now (costs .entry)) count (now (pairs .entry)))) ⌝ }
+    ensures { λ r. ⌜ r ≡ length (answerFront steps edges (now (costs .entry)) count) ⌝ }
 {
     leb128_write::size(steps, STEP_BYTES)
         + codec::numbers_size(costs, edges)
         + leb128_write::size_short(count as u32)
-        + codec::numbers_size(pairs, 2 * count)
 }
 
-// Does the answer frame fit into so many bytes? Steps take at most three, a count of at most 64 one, every other number at
-// most two: where there is room for that, nothing is measured.
+// Does the answer frame fit into so many bytes? Steps take at most four, a cost three, a count of at most 64 one: where the pairs
+// leave room for that, only they are measured.
 fn fits(
     steps: u32,
     edges: usize,
@@ -45,10 +38,15 @@ fn fits(
     requires { ⌜ count ≤ 64 ⌝ }
     ensures { λ r. ⌜ r ≡ leb (length (answerFrame (answerAt steps edges (now (costs .entry)) count (now (pairs .entry))))) room ⌝ }
 {
-    if 4 + 2 * edges + 4 * count <= room {
+    let behind = codec::numbers_size(pairs, 2 * count);
+    if room < behind {
+        return false;
+    }
+    let left = room - behind;
+    if 5 + 3 * edges <= left {
         return true;
     }
-    answer_size(steps, edges, costs, count, pairs) <= room
+    front_size(steps, edges, costs, count) <= left
 }
 
 // Puts the answer frame at a position and gives the position behind it.

@@ -17,6 +17,7 @@ use Rattle.limits.specs.Limits.{numberBytes}
 use Rattle.frame.specs.Job.{bytesOf}
 use Rattle.frame.specs.Meaning.{Divides}
 use Rattle.frame.specs.RoundTrip.{flatMap-append}
+use Rattle.frame.specs.OwnAnswer.{bytes-most}
 use Rattle.codec.specs.declared.Taken.{Taken}
 use Rattle.codec.specs.Numbers.{takenAt, numbersAt, Loaded, loadedAt, load}
 use Rattle.codec.specs.NumberLaws.{next-number}
@@ -41,12 +42,6 @@ unfolding gather
 gather-same zero f g h = refl
 gather-same (suc n) f g h = ap₂ _++_ (gather-same n f g (λ i l. h i (omega arith))) (h n (omega arith))
 
--- A number takes at most two bytes.
-pub bytes-short : (ns : List ℕ) → length (bytesOf ns) ≤ 2 * length ns
-unfolding flatMap
-bytes-short [] = omega arith
-bytes-short (x ∷ ns) = omega (arith, bytes-short ns, encode-size-most numberBytes x, length-append (encode numberBytes x) (bytesOf ns))
-
 module _ (xs : List ℕ) where
   -- One number more.
   pub numbers-more : (n : ℕ) → numbersAt (n + 1) xs ≡ numbersAt n xs ++ (getD xs n 0 ∷ [])
@@ -63,8 +58,11 @@ module _ (xs : List ℕ) where
   pub size-within : (n m : ℕ) → n ≤ m → length (bytesOf (numbersAt n xs)) ≤ length (bytesOf (numbersAt m xs))
   size-within = gather-within bytesOf (λ i. getD xs i 0 ∷ []) (λ n. omega (arith, size-more n))
 
-  pub size-short : (n : ℕ) → length (bytesOf (numbersAt n xs)) ≤ 2 * n
-  size-short n = omega (arith, bytes-short (numbersAt n xs), length-tabulate (λ i. getD xs i 0) n)
+  -- No number takes more bytes than it may.
+  pub size-short : (n : ℕ) → length (bytesOf (numbersAt n xs)) ≤ numberBytes * n
+  size-short n =
+      let ns = numbersAt n xs in
+      omega (arith, bytes-most numberBytes ns (λ i. encode-size-most numberBytes (getD ns i 0)), length-tabulate (λ i. getD xs i 0) n)
 
   -- A number stored behind the first n.
   pub numbers-stored : (n v : ℕ) → n < length xs → numbersAt (n + 1) (set xs n v) ≡ numbersAt n xs ++ (v ∷ [])

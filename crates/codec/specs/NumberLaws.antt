@@ -66,7 +66,7 @@ module _ (s : List ℕ) (at n : ℕ) where
       first (v ∷ ns) h r =
           let one = next-number s ns v at (d .within) r in
           let still : one .next ≡ at = ap (λ (t : Taken). t .next) (sym (one .here) ∙ taken-refused s at e) in
-          omega (arith, still, one .size, encode-size-pos 1 v)
+          omega (arith, still, one .size, encode-size-pos (numberBytes - 1) v)
 
   pub divided-next : Divided s at n → (k v next : ℕ) → k < n → readAt numberBytes s at ≡ Read.Value v next → Divided s next k
   divided-next d k v next l e = first (d .ns) (omega (arith, d .enough)) (d .rest)

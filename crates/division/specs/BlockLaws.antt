@@ -1,74 +1,151 @@
--- Laws of blocks: a block of a frame's bytes in which each has a byte behind it that may stand there counts as many numbers as
+-- Laws of blocks: a block of a frame's bytes in which each has bytes behind it that may stand there counts as many numbers as
 -- it has last bytes. Assumes nothing.
 use Prim.Native.Nat.{ℕ, zero, suc, _+_, _*_, _-_, _<_, _≤_}
 use native.Mathlib.Numerals.{add-one}
 use native.Mathlib.Decide.{decLt}
 use native.Mathlib.Omega.{arith}
-use mathlib.Core.Path.{_≡_, refl, ap, _∙_}
-use mathlib.Core.Bool.{true, false, not, _&&_}
+use mathlib.Core.Path.{_≡_, refl, ap, sym, _∙_}
+use mathlib.Core.Bool.{true, not, _&&_, _||_}
 use mathlib.Core.List.{List, _∷_}
 use lib.Dec.{ltb, eqb}
-use lib.ListN.{length, getD, drop}
+use lib.ListN.{length, getD, drop, length-drop}
 use lib.Seq.{drop-cons, drop-drop}
 use borrow.Author.Tests.{lt-ltb, le-ltb, ltb-true, eqb-false, not-true}
 use Rattle.loops.specs.Below.{allBelow, sum}
 use Rattle.loops.specs.TestLaws.{and-first, and-second}
-use Rattle.number.specs.Number.{Bytes, decode}
-use Rattle.number.specs.Number.Decoded.{number}
-use Rattle.number.specs.Laws.{extend-more}
+use Rattle.number.specs.Number.{Bytes, extend, decode}
+use Rattle.number.specs.Number.Decoded.{number, none}
+use Rattle.number.specs.Laws.{extend-zero, extend-more, decode-wider}
 use Rattle.limits.specs.Limits.{numberBytes}
 use Rattle.frame.specs.Questions.{divide}
-use Rattle.frame.specs.Division.{divide-number}
+use Rattle.frame.specs.Division.{divide-number, divide-none}
 use Rattle.division.specs.declared.Numbers.{Numbers}
-use Rattle.division.specs.Counting.{countFrom, Counting, mayFollow, followed, continued}
+use Rattle.division.specs.Counting.{countFrom, Counting, followed, continued}
 use Rattle.division.specs.CountingLaws.{count-more, count-number}
 
 drop-at : (s : List ℕ) (i : ℕ) → i < length s → drop i s ≡ getD s i 0 ∷ drop (i + 1) s
 drop-at s i l = rw (add-one, drop-cons s i 0)
 
 -- A byte below 128 is a number.
-decode-one : (s : List ℕ) (i : ℕ) → i < length s → getD s i 0 < 128 → decode numberBytes (drop i s) ≡ number (getD s i 0) 1
+decode-one : (k : ℕ) (s : List ℕ) (i : ℕ) → i < length s → getD s i 0 < 128 → decode (suc k) (drop i s) ≡ number (getD s i 0) 1
 unfolding decode
-decode-one s i l h = rw (drop-cons s i 0 l, lt-ltb (getD s i 0) 128 h)
+decode-one k s i l h = rw (drop-cons s i 0 l, lt-ltb (getD s i 0) 128 h)
 
--- A byte from 128 on and one of 1 to 127 are a number.
-two-bytes : (a b : ℕ) (t : List ℕ) → 128 ≤ a → 0 < b → b < 128 → decode numberBytes (a ∷ b ∷ t) ≡ number (a - 128 + 128 * b) 2
+-- A byte from 128 on and a number behind it that is not 0 are a number.
+decode-first :
+    (k : ℕ) (s : List ℕ) (i v m : ℕ) →
+    i < length s →
+    128 ≤ getD s i 0 →
+    0 < v →
+    decode k (drop (i + 1) s) ≡ number v m →
+    decode (suc k) (drop i s) ≡ number (getD s i 0 - 128 + 128 * v) (suc m)
 unfolding decode
-two-bytes a b t h p q = rw (le-ltb a 128 h, lt-ltb b 128 q) (extend-more (a - 128) b 1 p)
+decode-first k s i v m l h p d = rw (drop-at s i l, le-ltb (getD s i 0) 128 h, d) (extend-more (getD s i 0 - 128) v m p)
 
--- The count goes on byte by byte. Behind a first byte nothing more is counted: the last byte, read alone, is a number too and
--- counts for the two.
+-- In front of no number, or of 0, it is none.
+decode-none :
+    (k : ℕ) (s : List ℕ) (i : ℕ) → i < length s → 128 ≤ getD s i 0 → decode k (drop (i + 1) s) ≡ none → decode (suc k) (drop i s) ≡ none
+unfolding decode extend
+decode-none k s i l h d = rw (drop-at s i l, le-ltb (getD s i 0) 128 h, d)
+
+decode-zero :
+    (k : ℕ) (s : List ℕ) (i m : ℕ) → i < length s → 128 ≤ getD s i 0 → decode k (drop (i + 1) s) ≡ number 0 m → decode (suc k) (drop i s) ≡ none
+unfolding decode
+decode-zero k s i m l h d = rw (drop-at s i l, le-ltb (getD s i 0) 128 h, d) (extend-zero (getD s i 0 - 128) m)
+
+-- The count goes on byte by byte. Behind a byte that is not the last nothing more is counted: what is left of its number, read
+-- alone, is a number too and counts for the whole; or neither is a number.
 module _ (s : List ℕ) (i n : ℕ) (whole : Numbers) (c : Counting s i n whole) where
   count-last : i < length s → getD s i 0 < 128 → Counting s (i + 1) (n + 1) whole
-  count-last l h = count-number s i n whole c l (getD s i 0) 1 (decode-one s i l h)
+  count-last l h = count-number s i n whole c l (getD s i 0) 1 (decode-one (numberBytes - 1) s i l h)
 
-  count-first : i + 1 < length s → 128 ≤ getD s i 0 → 0 < getD s (i + 1) 0 → getD s (i + 1) 0 < 128 → Counting s (i + 1) n whole
-  count-first l h p q =
-      let front = drop-at s i (omega arith) ∙ ap (getD s i 0 ∷_) (drop-at s (i + 1) l) in
-      let behind : i + 1 + 1 ≡ i + 2 = omega arith in
-      let two = count-number s i n whole c (omega arith) (getD s i 0 - 128 + 128 * getD s (i + 1) 0) 2
-      (rw front (two-bytes (getD s i 0) (getD s (i + 1) 0) (drop (i + 1 + 1) s) h p q)) in
+  count-first :
+      i + 1 < length s →
+      128 ≤ getD s i 0 →
+      (v m : ℕ) → 0 < v → decode (numberBytes - 1) (drop (i + 1) s) ≡ number v m → Counting s (i + 1) n whole
+  count-first l h v m p d = turn (c .fuel) (c .enough) (c .rest)
+    where
+      turn : (k : ℕ) → length s - i ≤ k → countFrom n (divide k (drop i s)) ≡ whole → Counting s (i + 1) n whole
+      turn zero e q = absurd (omega arith)
+      turn (suc k) e q =
+          let behind : i + 1 + m ≡ i + suc m = omega arith in
+          let front = decode-first (numberBytes - 1) s i v m (omega arith) h p d in
+          record {
+            fuel = suc k;
+            enough = omega arith;
+            few = omega (arith, c .few);
+            within = omega arith;
+            rest =
+                ap (countFrom n) (divide-number k (drop (i + 1) s) v m (decode-wider (numberBytes - 1) (drop (i + 1) s) v m d)) ∙
+                count-more n v (divide k (drop m (drop (i + 1) s))) ∙
+                ap (λ (t : List ℕ). countFrom (n + 1) (divide k t))
+                (drop-drop m (i + 1) s ∙ ap (λ (j : ℕ). drop j s) behind ∙ sym (drop-drop (suc m) i s)) ∙
+                sym (count-more n (getD s i 0 - 128 + 128 * v) (divide k (drop (suc m) (drop i s)))) ∙
+                ap (countFrom n) (sym (divide-number k (drop i s) (getD s i 0 - 128 + 128 * v) (suc m) front)) ∙
+                q;
+          }
+
+  count-none :
+      i + 1 < length s → decode numberBytes (drop i s) ≡ none → decode numberBytes (drop (i + 1) s) ≡ none → Counting s (i + 1) n whole
+  count-none l d d′ =
       record {
-        fuel = suc (two .fuel);
-        enough = omega (arith, two .enough);
+        fuel = c .fuel;
+        enough = omega (arith, c .enough);
         few = omega (arith, c .few);
         within = omega arith;
         rest =
-            ap (countFrom n) (divide-number (two .fuel) (drop (i + 1) s) (getD s (i + 1) 0) 1 (decode-one s (i + 1) l q)) ∙
-            count-more n (getD s (i + 1) 0) (divide (two .fuel) (drop 1 (drop (i + 1) s))) ∙
-            ap (λ (t : List ℕ). countFrom (n + 1) (divide (two .fuel) t)) (drop-drop 1 (i + 1) s ∙ ap (λ (j : ℕ). drop j s) behind) ∙
-            two .rest;
+            ap (countFrom n)
+            (divide-none (c .fuel) (drop (i + 1) s) (omega (arith, length-drop (i + 1) s)) d′ ∙
+            sym (divide-none (c .fuel) (drop i s) (omega (arith, length-drop i s)) d)) ∙
+            c .rest;
       }
 
 counting-same : (s : List ℕ) (i j n m : ℕ) (whole : Numbers) → i ≡ j → n ≡ m → Counting s i n whole → Counting s j m whole
 counting-same s i j n m whole e q c = rw (← e, ← q) c
 
-may-last : (a b : ℕ) → mayFollow a b ≡ true → 128 ≤ a → (0 < b) × (b < 128)
-may-last a b h l =
-    let both : (not (eqb b 0) && ltb b 128) ≡ true = rw (le-ltb a 128 l) at h in
-    let some : eqb b 0 ≡ false = not-true (eqb b 0) (and-first (not (eqb b 0)) (ltb b 128) both) in
-    let apart = eqb-false b 0 some in
-    (omega (arith, apart), ltb-true b 128 (and-second (not (eqb b 0)) (ltb b 128) both))
+-- Behind a byte from 128 on that may stand there: the rest of its number, in one or two bytes, or two that end in 00.
+count-rest :
+    (s : List ℕ) (i n : ℕ) (whole : Numbers) →
+    Counting s i n whole →
+    i + 2 < length s →
+    128 ≤ getD s i 0 →
+    followed s i ≡ true →
+    Counting s (i + 1) n whole
+count-rest s i n whole c l h f = of (decLt b 128) (decLt 0 d)
+  where
+    b : ℕ
+    b = getD s (i + 1) 0
+
+    d : ℕ
+    d = getD s (i + 2) 0
+
+    behind : (not (eqb b 0) && (ltb b 128 || ltb d 128)) ≡ true
+    behind = rw (le-ltb (getD s i 0) 128 h) at f
+
+    some : 0 < b
+    some =
+        let apart = eqb-false b 0 (not-true (eqb b 0) (and-first (not (eqb b 0)) (ltb b 128 || ltb d 128) behind)) in
+        omega (arith, apart)
+
+    third : (k : ℕ) → 128 ≤ b → decode (suc k) (drop (i + 1 + 1) s) ≡ number d 1
+    third k m =
+        let last : ltb d 128 ≡ true = rw (le-ltb b 128 m) at (and-second (not (eqb b 0)) (ltb b 128 || ltb d 128) behind) in
+        let two : i + 2 ≡ i + 1 + 1 = omega arith in
+        rw (← two) (decode-one k s (i + 2) l (ltb-true d 128 last))
+
+    of : Dec (b < 128) → Dec (0 < d) → Counting s (i + 1) n whole
+    of (yes m) _ = count-first s i n whole c (omega arith) h b 1 some (decode-one 1 s (i + 1) (omega arith) m)
+    of (no m) (yes p) =
+        count-first s i n whole c (omega arith) h (b - 128 + 128 * d) 2 (omega arith)
+        (decode-first 1 s (i + 1) d 1 (omega arith) (omega arith) p (third 0 (omega arith)))
+    of (no m) (no p) =
+        let zero-last : (k : ℕ) → decode (suc k) (drop (i + 1 + 1) s) ≡ number 0 1 = λ k. rw nought at (third k (omega arith)) in
+        count-none s i n whole c (omega arith)
+        (decode-none 2 s i (omega arith) h (decode-zero 1 s (i + 1) 1 (omega arith) (omega arith) (zero-last 0)))
+        (decode-zero 2 s (i + 1) 1 (omega arith) (omega arith) (zero-last 1))
+      where
+        nought : d ≡ 0
+        nought = omega arith
 
 -- One byte more: f of the bytes before it were not the last of their number.
 count-byte :
@@ -76,16 +153,15 @@ count-byte :
     Bytes s →
     f ≤ i →
     Counting s i (i - f) whole →
-    i + 1 < length s →
+    i + 2 < length s →
     followed s i ≡ true →
     Counting s (i + 1) (i + 1 - (f + continued s i)) whole
 count-byte s i f whole b k c l h =
     elim (decLt (getD s i 0) 128) [
       | yes p ↦ counting-same s (i + 1) (i + 1) (i - f + 1) (i + 1 - (f + continued s i)) whole refl (omega arith)
           (count-last s i (i - f) whole c (omega arith) p)
-      | no p ↦ let (q, r) = may-last (getD s i 0) (getD s (i + 1) 0) h (omega arith) in
-          counting-same s (i + 1) (i + 1) (i - f) (i + 1 - (f + continued s i)) whole refl (omega (arith, b i))
-          (count-first s i (i - f) whole c l (omega arith) q r)
+      | no p ↦ counting-same s (i + 1) (i + 1) (i - f) (i + 1 - (f + continued s i)) whole refl (omega (arith, b i))
+          (count-rest s i (i - f) whole c l (omega arith) h)
     ]
 
 pub continued-few : (s : List ℕ) (at k : ℕ) → Bytes s → sum k (λ j. continued s (at + j)) ≤ k
@@ -98,7 +174,7 @@ pub count-block :
     Bytes s →
     f ≤ at →
     Counting s at (at - f) whole →
-    at + k < length s →
+    at + k + 1 < length s →
     allBelow k (λ j. followed s (at + j)) ≡ true →
     Counting s (at + k) (at + k - (f + sum k (λ j. continued s (at + j)))) whole
 unfolding allBelow sum

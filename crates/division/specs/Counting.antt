@@ -23,12 +23,13 @@ pub record Counting (s : List ℕ) (at n : ℕ) (whole : Numbers) : Type 0 where
   pub within : at ≤ length s
   pub rest : countFrom n (divide fuel (drop at s)) ≡ whole
 
--- May b stand behind a where numbers take one or two bytes? A byte from 128 on wants one of 1 to 127 behind it.
-abbrev pub mayFollow : ℕ → ℕ → Bool
-mayFollow a b = ltb a 128 || (not (eqb b 0) && ltb b 128)
+-- May b and c stand behind a where numbers take one to three bytes? A byte from 128 on wants one other than 0 behind it, and of
+-- three bytes one is below 128.
+abbrev pub mayFollow : ℕ → ℕ → ℕ → Bool
+mayFollow a b c = ltb a 128 || (not (eqb b 0) && (ltb b 128 || ltb c 128))
 
 abbrev pub followed : List ℕ → ℕ → Bool
-followed s i = mayFollow (getD s i 0) (getD s (i + 1) 0)
+followed s i = mayFollow (getD s i 0) (getD s (i + 1) 0) (getD s (i + 2) 0)
 
 -- 1 for a byte behind which its number goes on, 0 for the last byte of a number.
 abbrev pub continued : List ℕ → ℕ → ℕ

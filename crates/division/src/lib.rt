@@ -20,9 +20,9 @@ struct Passed {
     count: usize,
 }
 
-// May `b` stand behind `a`? A byte from 128 on wants one of 1 to 127 behind it, its number's last.
-fn may_follow(a: u8, b: u8) -> bool
-    ensures { λ r. ⌜ r ≡ mayFollow a b ⌝ }
+// May `b` and `c` stand behind `a`? A byte from 128 on wants one other than 0 behind it, and of three bytes one is below 128.
+fn may_follow(a: u8, b: u8, c: u8) -> bool
+    ensures { λ r. ⌜ r ≡ mayFollow a b c ⌝ }
 {
     if a < 128 {
         return true;
@@ -30,20 +30,23 @@ fn may_follow(a: u8, b: u8) -> bool
     if b == 0 {
         return false;
     }
-    b < 128
+    if b < 128 {
+        return true;
+    }
+    c < 128
 }
 
-// May each of 32 bytes have the byte behind it that it has? Here, as in every function over a block, the loop has a fixed number
+// May each of 32 bytes have the two bytes behind it that it has? Here, as in every function over a block, the loop has a fixed number
 // of turns and no early exit: the compiler makes vector code of it.
 fn block_divides(frame: &[u8], at: usize) -> bool
-    requires { ⌜ at + 32 < length (now frame) ⌝ }
+    requires { ⌜ at + 33 < length (now frame) ⌝ }
     ensures { λ r. ⌜ r ≡ allBelow 32 (λ k. followed (now (frame .entry)) (at + k)) ⌝ }
 {
     let mut holds = true;
     let mut k: usize = 0;
     while k < 32 {
         let i = at + k;
-        let follows = may_follow(frame[i], frame[i + 1]);
+        let follows = may_follow(frame[i], frame[i + 1], frame[i + 2]);
         holds = holds & follows;
         k += 1;
     }
@@ -64,13 +67,13 @@ fn block_firsts(frame: &[u8], at: usize) -> u8
     firsts
 }
 
-// Counts in blocks of 32 bytes, up to the first that does not divide or has no byte behind it.
+// Counts in blocks of 32 bytes, up to the first that does not divide or has no two bytes behind it.
 fn count_blocks(frame: &[u8]) -> Passed
     ensures { λ r. ⌜ Counting (now (frame .entry)) (r .at) (r .count) (countFrom 0 (numbers (now (frame .entry)))) ⌝ }
 {
     let mut at: usize = 0;
     let mut firsts: usize = 0;
-    while 32 < frame.len() - at {
+    while 33 < frame.len() - at {
         if !block_divides(frame, at) {
             break;
         }

@@ -188,7 +188,7 @@ refused6 s h = (
     passes (ns, f) e t =
         omega (arith, e, first-no-unique s 0 h (none ns f (subst TreeHolds (job-of s ns h (f .divides)) t)))
 
--- No cost is above 16,383 if no number of the job is.
+-- No cost is above 2,097,151 if no number of the job is.
 links-small : (ls : List JobLink) → Small (flatMap fields ls) → (e : ℕ) → getD ls e noLink .cost ≤ maxNumber
 unfolding flatMap
 links-small [] h e = omega arith

@@ -12,7 +12,7 @@ use borrow.Author.Tests.{leb-true, le-leb}
 use Rattle.loops.specs.Below.{allBelow}
 use Rattle.loops.specs.TestLaws.{and-first, and-second, all-at}
 use Rattle.number.specs.Number.{encode}
-use Rattle.number.specs.Laws.{encode-size-last, encode-size-most}
+use Rattle.number.specs.Laws.{encode-size-last, encode-size-most, encode-size-below}
 use Rattle.frame.specs.Job.{JobLink, Job, noLink, link, fields, jobNumbers, bytesOf, jobFrame}
 use Rattle.limits.specs.Limits.{maxNodes, maxEdges, maxNumber, numberBytes, jobMost}
 use Rattle.frame.specs.Questions.{jobOf, numbers, question1, question2, question4, question5}
@@ -88,7 +88,7 @@ list-counted : (j : Job) → question2 (jobNumbers j) ≡ counted j
 unfolding question2 counted
 list-counted j = rw (le-leb 2 (length (jobNumbers j)) (omega arith))
 
--- Where no number is above 16,383 the questions say of a list of links what they say of its frame.
+-- Where no number is above 2,097,151 the questions say of a list of links what they say of its frame.
 pub list-as-frame : (rest : Job → ℕ) (j : Job) → small j ≡ true → listQuestions rest j ≡ question1 (numbers (jobFrame j)) (numberQuestions rest)
 list-as-frame rest j h =
     rw (h, list-numbers j h, list-counted j, question3-means (jobNumbers j) .1 (list-complete j), numbers-job j)
@@ -167,7 +167,7 @@ links-size (l ∷ ls) h =
       links-size ls (λ e k. h (suc e) (omega arith)),
     )
 
--- The longest job has 1,283 bytes.
+-- The longest job has 1,539 bytes: the link count takes two at most, 256 links six each.
 pub longest : (j : Job) → listFormRefusal j ≡ 0 → length (jobFrame j) ≤ jobMost
 unfolding flatMap
 longest j h =
@@ -175,4 +175,8 @@ longest j h =
     let limits = counted-limits j (q .counted) in
     let links = links-size (j .links) (λ e k.
     link-size (link j e) (omega (arith, q .ends .first e k)) (omega (arith, q .ends .second e k)) (mark-small (link j e .mark) (q .marks e k))) in
-    simp length-append (omega (arith, encode-size-last (numberBytes - 1) (j .nodes) (omega arith), encode-size-most numberBytes (length (j .links))))
+    simp length-append (omega (
+      arith,
+      encode-size-last (numberBytes - 1) (j .nodes) (omega arith),
+      encode-size-below 2 numberBytes (length (j .links)) (omega arith) (omega (arith, limits)),
+    ))

@@ -27,7 +27,7 @@ linksOf (a ∷ b ∷ c ∷ m ∷ ns) = record { end₁ = a; end₂ = b; cost = c
 abbrev pub jobFrom : List ℕ → Job
 jobFrom ns = record { nodes = nodeCount ns; links = linksOf (drop 2 ns) }
 
--- Numbers that fit into k bytes each; those of a job: at most 16,383.
+-- Numbers that fit into k bytes each; those of a job: at most 2,097,151.
 abbrev pub SmallBy : ℕ → List ℕ → Type 0
 SmallBy k ns = (i : ℕ) → getD ns i 0 ≤ largest k
 
@@ -39,7 +39,7 @@ pub record DividesBy (k : ℕ) (s ns : List ℕ) : Type 0 where
   pub small : SmallBy k ns
   pub joined : bytesBy k ns ≡ s
 
--- 1. The frame divides into whole numbers, each in shortest form of one or two bytes.
+-- 1. The frame divides into whole numbers, each in shortest form of one to three bytes.
 abbrev pub Divides : List ℕ → List ℕ → Type 0
 Divides s ns = DividesBy numberBytes s ns
 

@@ -1,5 +1,6 @@
 -- Our own answers: they are judged yes, read back, and at most `answerMost` bytes long. Assumes nothing.
-use Prim.Native.Nat.{ℕ, suc, _+_, _*_, _-_, _<_, _≤_}
+use Prim.Native.Nat.{ℕ, zero, suc, _+_, _*_, _-_, _<_, _≤_}
+use native.Mathlib.Nat.{mul-suc}
 use native.Mathlib.Omega.{arith}
 use native.Mathlib.Decide.{decLt}
 use mathlib.Core.Path.{_≡_, refl, ap}
@@ -8,12 +9,12 @@ use mathlib.Core.List.{List, [], _∷_, _++_, flatMap, List·Memᴰ, List·Mem�
 use mathlib.Core.Option.{some}
 use lib.ListN.{length, getD, length-append, List·getD-eq-default}
 use Rattle.number.specs.Number.{encode}
-use Rattle.number.specs.Laws.{encode-size-last, encode-size-most}
+use Rattle.number.specs.Laws.{encode-size-last, encode-size-most, encode-size-below}
 use Rattle.optimum.specs.Optimum.{Pair, both, Answer, Demanded}
 use Rattle.optimum.specs.Demand.{demand}
 use Rattle.optimum.specs.Range.{new-most, pairs-few, steps-few}
 use Rattle.frame.specs.Job.{Job, bytesOf, graphOf, treeOf, costOf}
-use Rattle.limits.specs.Limits.{maxNumber, numberBytes, stepBytes, answerMost}
+use Rattle.limits.specs.Limits.{maxEdges, maxNumber, numberBytes, stepBytes, answerMost}
 use Rattle.frame.specs.Answers.{answerOf, readAnswer, judgeAnswer}
 use Rattle.frame.specs.Meaning.{Small, Accepted}
 use Rattle.frame.specs.Division.{small-cons}
@@ -30,26 +31,30 @@ small-append (x ∷ xs) ys h k = small-cons x (xs ++ ys) (h 0) (small-append xs 
 small-places : (xs : List ℕ) → ((i : ℕ) → i < length xs → getD xs i 0 ≤ maxNumber) → Small xs
 small-places xs h i = elim (decLt i (length xs)) [ yes l ↦ h i l | no l ↦ omega (arith, List·getD-eq-default xs 0 {n = i} (omega arith)) ]
 
-small-pairs : (ps : List Pair) → ((p : Pair) → List·Memᴰ p ps → (p .tree ≤ maxNumber) × (p .spare ≤ maxNumber)) → Small (flatMap both ps)
+-- No number of pairs is larger than their links' numbers.
+pairs-most :
+    (most : ℕ) (ps : List Pair) → ((p : Pair) → List·Memᴰ p ps → (p .tree ≤ most) × (p .spare ≤ most)) → (i : ℕ) → getD (flatMap both ps) i 0 ≤ most
 unfolding flatMap
-small-pairs [] h = λ i. omega arith
-small-pairs (p ∷ ps) h =
-    let (t, s) = h p (List·Memᴰ·head refl) in
-    small-cons (p .tree) (p .spare ∷ flatMap both ps) t (small-cons (p .spare) (flatMap both ps) s (small-pairs ps (λ q m. h q (List·Memᴰ·tail m))))
+pairs-most most [] h i = omega arith
+pairs-most most (p ∷ ps) h zero = h p (List·Memᴰ·head refl) .0
+pairs-most most (p ∷ ps) h (suc zero) = h p (List·Memᴰ·head refl) .1
+pairs-most most (p ∷ ps) h (suc (suc i)) = pairs-most most ps (λ q m. h q (List·Memᴰ·tail m)) i
 
--- No number takes more bytes than it may.
-bytes-most : (ns : List ℕ) → length (bytesOf ns) ≤ numberBytes * length ns
+-- Numbers of at most n bytes each.
+pub bytes-most : (n : ℕ) (ns : List ℕ) → ((i : ℕ) → length (encode numberBytes (getD ns i 0)) ≤ n) → length (bytesOf ns) ≤ n * length ns
 unfolding flatMap
-bytes-most [] = omega arith
-bytes-most (n ∷ ns) = omega (arith, length-append (encode numberBytes n) (bytesOf ns), encode-size-most numberBytes n, bytes-most ns)
+bytes-most n [] h = omega arith
+bytes-most n (x ∷ ns) h =
+    omega (arith, length-append (encode numberBytes x) (bytesOf ns), h 0, bytes-most n ns (λ i. h (suc i)), mul-suc n (length ns))
 
--- The count of fewer than 128 pairs takes one byte.
+-- The count of fewer than 128 pairs takes one byte, and a link's number at most two.
 answer-most :
     (a : Answer) →
     length (a .pairs) < 128 →
-    length (answerFrame a) ≤ stepBytes + numberBytes * length (a .costs) + 1 + numberBytes * (2 * length (a .pairs))
+    ((i : ℕ) → getD (flatMap both (a .pairs)) i 0 ≤ maxEdges) →
+    length (answerFrame a) ≤ stepBytes + numberBytes * length (a .costs) + 1 + 2 * (2 * length (a .pairs))
 unfolding flatMap
-answer-most a l =
+answer-most a l links =
     let pairs : List ℕ = flatMap both (a .pairs) in
     omega (
       arith,
@@ -58,9 +63,9 @@ answer-most a l =
       length-append (bytesOf (a .costs)) (encode numberBytes (length (a .pairs)) ++ bytesOf pairs),
       length-append (encode numberBytes (length (a .pairs))) (bytesOf pairs),
       encode-size-most stepBytes (a .steps),
-      bytes-most (a .costs),
+      bytes-most numberBytes (a .costs) (λ i. encode-size-most numberBytes (getD (a .costs) i 0)),
       encode-size-last (numberBytes - 1) (length (a .pairs)) l,
-      bytes-most pairs,
+      bytes-most 2 pairs (λ i. encode-size-below 2 numberBytes (getD pairs i 0) (omega arith) (omega (arith, links i))),
       length-both (a .pairs),
     )
 
@@ -71,6 +76,12 @@ module _ (j : Job) (accepted : Accepted j) where
 
   few : length (answerOf j .pairs) ≤ 63
   few = omega (arith, pairs-few own, accepted .tree .size, accepted .node-limit)
+
+  paired : (i : ℕ) → getD (flatMap both (answerOf j .pairs)) i 0 ≤ maxEdges
+  paired =
+      pairs-most maxEdges (answerOf j .pairs) λ p m.
+      let is = own .matching .pairs p m in
+      (omega (arith, is .tree-below, accepted .edge-limit), omega (arith, is .spare-below, accepted .edge-limit))
 
   -- The answer to an accepted job fits the layout.
   pub own-layout : AnswerOf (length (j .links)) (answerFrame (answerOf j)) (answerOf j)
@@ -84,11 +95,7 @@ module _ (j : Job) (accepted : Accepted j) where
             (small-places (answerOf j .costs) (λ i l.
             new-most (graphOf j) (λ e l. refl) (treeOf j) (costOf j) maxNumber (λ e l. cost-small j (accepted .small) e) i (omega (arith, own .count))))
             (small-cons (length (answerOf j .pairs)) (flatMap both (answerOf j .pairs)) (omega (arith, few))
-            (small-pairs (answerOf j .pairs) (λ p m.
-            let is = own .matching .pairs p m in (
-              omega (arith, is .tree-below, accepted .edge-limit),
-              omega (arith, is .spare-below, accepted .edge-limit),
-            ))));
+            (λ i. omega (arith, paired i)));
         count = own .count;
       }
 
@@ -114,4 +121,4 @@ module _ (j : Job) (accepted : Accepted j) where
   own-judged = certified-judged j accepted own-certified
 
   pub own-size : length (answerFrame (answerOf j)) ≤ answerMost
-  own-size = omega (arith, answer-most (answerOf j) (omega (arith, few)), few, own .count, accepted .edge-limit)
+  own-size = omega (arith, answer-most (answerOf j) (omega (arith, few)) paired, few, own .count, accepted .edge-limit)

@@ -75,7 +75,7 @@ numberQuestions rest ns =
     ask (question5 (jobFrom ns)) 5 λ _.
     rest (jobFrom ns)
 
--- 1. Does the frame divide into whole numbers, each in shortest form of one or two bytes?
+-- 1. Does the frame divide into whole numbers, each in shortest form of one to three bytes?
 abbrev pub question1 : Option (List ℕ) → (List ℕ → ℕ) → ℕ
 question1 (some ns) rest = rest ns
 question1 none rest = 1

@@ -40,7 +40,7 @@ pub record Served (earlier : ℕ) (bytes area : List ℕ) (o : Outcome) : Type 0
   pub front : o .refusal ≡ 0 → take (o .size) (o .area) ≡ bytes
   pub rest : o .refusal ≡ 0 → drop (o .size) (o .area) ≡ drop (o .size) area
 
--- A list of links without a number above 16,383 (question 1).
+-- A list of links without a number above 2,097,151 (question 1).
 abbrev pub smallNumbers : JobLink → Bool
 smallNumbers l = leb (l .end₁) maxNumber && leb (l .end₂) maxNumber && leb (l .cost) maxNumber && leb (l .mark) maxNumber
 

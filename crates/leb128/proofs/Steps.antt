@@ -1,12 +1,12 @@
 -- One step of the model of reading, in the shape of the code's own tests: a number of bytes that is 0 or not, a position in the
 -- slice or past it, a byte below 128 or not. Assumes nothing.
-use Prim.Native.Nat.{ℕ, zero, suc, _+_, _*_, _-_, _/_, _%_, _^_, _<_, _≤_}
+use Prim.Native.Nat.{ℕ, zero, suc, _+_, _*_, _-_, _^_, _<_, _≤_}
 use native.Mathlib.Nat.{lt-of-lt-of-le, pow-le-pow-right}
 use native.Mathlib.Numerals.{add-one}
 use native.Mathlib.Decide.{decLt}
 use native.Mathlib.Omega.{arith}
 use mathlib.Core.Path.{_≡_, refl, ap, _∙_}
-use mathlib.Core.List.{List, [], _∷_}
+use mathlib.Core.List.{List}
 use lib.ListN.{length, drop, getD, drop-of-length-le}
 use lib.Seq.{drop-cons}
 use borrow.Author.Tests.{lt-ltb, le-ltb}
@@ -15,6 +15,10 @@ use Rattle.leb128.specs.Positions.{located, readAt, Stands, located-valu
 use Rattle.number.specs.Number.Decoded.{number}
 use Rattle.leb128.specs.declared.Number.the-variants.{Value, Refused}
 use Rattle.number.specs.Laws.{bytes-drop, decode-bound, extend-zero, extend-more}
+
+-- A number may take a byte.
+pub some-byte : (k : ℕ) → suc k ≡ 0 → ⊥
+some-byte k e = omega (arith, e)
 
 pub read-none : (k : ℕ) (s : List ℕ) (at : ℕ) → k ≡ 0 → readAt k s at ≡ Refused
 unfolding decode located
@@ -87,49 +91,46 @@ read-bound k top s at v next l h e =
 -- Two bytes at most, of which the first says that another follows.
 module _ (s : List ℕ) (at : ℕ) (within : at < length s) (more : 128 ≤ getD s at 0) where
   pub cut-off : length s ≤ at + 1 → readAt 2 s at ≡ Refused
-  cut-off l = read-refused 2 s at (λ e. omega (arith, e)) within more (read-end 1 s (at + 1) l)
+  cut-off l = read-refused 2 s at (some-byte 1) within more (read-end 1 s (at + 1) l)
 
   module _ (inside : at + 1 < length s) where
     pub too-long : 128 ≤ getD s (at + 1) 0 → readAt 2 s at ≡ Refused
     too-long m =
-        read-refused 2 s at (λ e. omega (arith, e)) within more
-        (read-refused 1 s (at + 1) (λ e. omega (arith, e)) inside m (read-none 0 s (at + 1 + 1) (omega arith)))
+        read-refused 2 s at (some-byte 1) within more
+        (read-refused 1 s (at + 1) (some-byte 0) inside m (read-none 0 s (at + 1 + 1) (omega arith)))
 
     module _ (ends : getD s (at + 1) 0 < 128) where
       second : readAt 1 s (at + 1) ≡ Value (getD s (at + 1) 0) (at + 1 + 1)
-      second = read-last 1 s (at + 1) (λ e. omega (arith, e)) inside ends
+      second = read-last 1 s (at + 1) (some-byte 0) inside ends
 
       pub not-shortest : getD s (at + 1) 0 ≡ 0 → readAt 2 s at ≡ Refused
-      not-shortest e = read-long 2 s at (λ e. omega (arith, e)) within more _ _ second e
+      not-shortest e = read-long 2 s at (some-byte 1) within more _ _ second e
 
       pub two-bytes : (getD s (at + 1) 0 ≡ 0 → ⊥) → readAt 2 s at ≡ Value (getD s at 0 - 128 + 128 * getD s (at + 1) 0) (at + 1 + 1)
-      two-bytes e = read-value 2 s at (λ e. omega (arith, e)) within more _ _ second e
+      two-bytes e = read-value 2 s at (some-byte 1) within more _ _ second e
 
--- Where a number of at most two bytes is known to stand, none of the tests can fail.
-module _ (s : List ℕ) (at : ℕ) (stands : Stands 2 s at) where
+-- Where a number is known to stand, none of the tests can fail.
+module _ (k : ℕ) (s : List ℕ) (at : ℕ) (some : k ≡ 0 → ⊥) (stands : Stands k s at) where
   pub known-first : at < length s
   known-first =
       elim (decLt at (length s)) [
         | yes l ↦ l
-        | no l ↦ absurd (stands (read-end 2 s at (omega arith)))
+        | no l ↦ absurd (stands (read-end k s at (omega arith)))
       ]
 
   module _ (more : 128 ≤ getD s at 0) where
-    pub known-second : at + 1 < length s
-    known-second =
-        elim (decLt (at + 1) (length s)) [
-          | yes l ↦ l
-          | no l ↦ absurd (stands (cut-off s at known-first more (omega arith)))
-        ]
+    pub known-rest : Stands (k - 1) s (at + 1)
+    known-rest e = stands (read-refused k s at some known-first more e)
 
-    pub known-ends : getD s (at + 1) 0 < 128
-    known-ends =
-        elim (decLt (getD s (at + 1) 0) 128) [
-          | yes l ↦ l
-          | no l ↦ absurd (stands (too-long s at known-first more known-second (omega arith)))
-        ]
+    pub known-value :
+        (v next : ℕ) → readAt (k - 1) s (at + 1) ≡ Value v next → readAt k s at ≡ Value (getD s at 0 - 128 + 128 * v) next
+    known-value v next e = read-value k s at some known-first more v next e (λ z. stands (read-long k s at some known-first more v next e z))
 
-    pub known-value : readAt 2 s at ≡ Value (getD s at 0 - 128 + 128 * getD s (at + 1) 0) (at + 1 + 1)
-    known-value =
-        two-bytes s at known-first more known-second known-ends
-        (λ e. stands (not-shortest s at known-first more known-second known-ends e))
+-- The last byte that a number may take ends it.
+pub known-last : (s : List ℕ) (at : ℕ) → Stands 1 s at → getD s at 0 < 128
+known-last s at stands =
+    elim (decLt (getD s at 0) 128) [
+      | yes l ↦ l
+      | no l ↦ absurd (stands (read-refused 1 s at (some-byte 0) (known-first 1 s at (some-byte 0) stands) (omega arith)
+          (read-none 0 s (at + 1) (omega arith))))
+    ]

@@ -45,8 +45,8 @@ pub fn read(s: &[u8], at: usize, most: u32) -> Number
     }
 }
 
-// The number of at most two bytes that stands at `at`: the same as `read`, without a call for each byte.
-pub fn read_short(bytes: &[u8], at: usize) -> Number
+// The number of at most two bytes that stands at `at`.
+fn read_two(bytes: &[u8], at: usize) -> Number
     ensures { λ r. ⌜ r ≡ readAt 2 (now (bytes .entry)) at ⌝ }
 {
     if bytes.len() <= at {
@@ -70,8 +70,29 @@ pub fn read_short(bytes: &[u8], at: usize) -> Number
     Number::Value(low - 128 + 128 * high, second + 1)
 }
 
-// The number of at most two bytes that is known to stand at `at`: the same as `read_short`, without its tests.
-pub fn read_known(bytes: &[u8], at: usize) -> Known
+// The number of at most three bytes that stands at `at`: the same as `read`, without a call for each byte.
+pub fn read_short(bytes: &[u8], at: usize) -> Number
+    ensures { λ r. ⌜ r ≡ readAt 3 (now (bytes .entry)) at ⌝ }
+{
+    if bytes.len() <= at {
+        return Number::Refused;
+    }
+    let first = bytes[at] as u32;
+    if first < 128 {
+        return Number::Value(first, at + 1);
+    }
+    let rest = read_two(bytes, at + 1);
+    let Number::Value(upper, next) = rest else {
+        return Number::Refused;
+    };
+    if upper == 0 {
+        return Number::Refused;
+    }
+    Number::Value(first - 128 + 128 * upper, next)
+}
+
+// The number of at most two bytes that is known to stand at `at`.
+fn known_two(bytes: &[u8], at: usize) -> Known
     requires { ⌜ Stands 2 (now bytes) at ⌝ }
     ensures { λ r. ⌜ readAt 2 (now (bytes .entry)) at ≡ Value (r .value) (r .next) ⌝ }
 {
@@ -87,5 +108,24 @@ pub fn read_known(bytes: &[u8], at: usize) -> Known
     Known {
         value: first - 128 + 128 * group,
         next: last + 1,
+    }
+}
+
+// The number of at most three bytes that is known to stand at `at`: the same as `read_short`, without its tests.
+pub fn read_known(bytes: &[u8], at: usize) -> Known
+    requires { ⌜ Stands 3 (now bytes) at ⌝ }
+    ensures { λ r. ⌜ readAt 3 (now (bytes .entry)) at ≡ Value (r .value) (r .next) ⌝ }
+{
+    let first = bytes[at] as u32;
+    if first < 128 {
+        return Known {
+            value: first,
+            next: at + 1,
+        };
+    }
+    let rest = known_two(bytes, at + 1);
+    Known {
+        value: first - 128 + 128 * rest.value,
+        next: rest.next,
     }
 }

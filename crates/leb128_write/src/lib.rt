@@ -20,14 +20,17 @@ pub fn size(x: u32, most: u32) -> usize
     1 + size(x / 128, most - 1)
 }
 
-// How many bytes `x` takes, of at most two: the same as `size`, without a call for each byte.
+// How many bytes `x` takes, of at most three: the same as `size`, without a call for each byte.
 pub fn size_short(x: u32) -> usize
-    ensures { λ r. ⌜ r ≡ length (encode 2 x) ⌝ }
+    ensures { λ r. ⌜ r ≡ length (encode 3 x) ⌝ }
 {
     if x < 128 {
         return 1;
     }
-    2
+    if x < 16384 {
+        return 2;
+    }
+    3
 }
 
 // Puts `x` at `at` and gives the position behind it.
@@ -57,8 +60,8 @@ fn last_byte(x: u32) -> u8
     (x % 128 + 128) as u8
 }
 
-// Puts `x` at `at` in at most two bytes: the same as `write`, without a call for each byte.
-pub fn write_short(area: &mut [u8], at: usize, x: u32) -> usize
+// Puts `x` at `at` in at most two bytes.
+fn write_two(area: &mut [u8], at: usize, x: u32) -> usize
     requires { ⌜ at + length (encode 2 x) ≤ length (now area) ⌝ }
     ensures next { λ r. ⌜ r ≡ at + length (encode 2 x) ⌝ }
     ensures area { λ r. ⌜ now (area .exit) ≡ sets (now (area .entry)) at (encode 2 x) ⌝ }
@@ -71,4 +74,18 @@ pub fn write_short(area: &mut [u8], at: usize, x: u32) -> usize
     let second = at + 1;
     area[second] = last_byte(x / 128);
     second + 1
+}
+
+// Puts `x` at `at` in at most three bytes: the same as `write`, without a call for each byte.
+pub fn write_short(area: &mut [u8], at: usize, x: u32) -> usize
+    requires { ⌜ at + length (encode 3 x) ≤ length (now area) ⌝ }
+    ensures next { λ r. ⌜ r ≡ at + length (encode 3 x) ⌝ }
+    ensures area { λ r. ⌜ now (area .exit) ≡ sets (now (area .entry)) at (encode 3 x) ⌝ }
+{
+    if x < 128 {
+        area[at] = x as u8;
+        return at + 1;
+    }
+    area[at] = (x % 128 + 128) as u8;
+    write_two(area, at + 1, x / 128)
 }

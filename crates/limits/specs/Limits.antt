@@ -10,12 +10,12 @@ maxEdges = 256
 
 -- The bytes of a number, and of the step count.
 abbrev pub numberBytes : ℕ
-numberBytes = 2
+numberBytes = 3
 
 abbrev pub stepBytes : ℕ
-stepBytes = 3
+stepBytes = 4
 
--- The largest number that fits into k bytes; the largest of a job: 16,383.
+-- The largest number that fits into k bytes; the largest of a job: 2,097,151.
 abbrev pub largest : ℕ → ℕ
 largest k = 128 ^ k - 1
 
@@ -24,10 +24,10 @@ maxNumber = largest numberBytes
 
 -- The longest job frame and the longest answer frame, in bytes: laws of crate `frame`.
 abbrev pub jobMost : ℕ
-jobMost = 1283
+jobMost = 1539
 
 abbrev pub answerMost : ℕ
-answerMost = 768
+answerMost = 1025
 
 -- The mark of a tree link.
 abbrev pub treeMark : ℕ

@@ -10,20 +10,20 @@ pub const MOST_EDGES: u32 = 256;
 pub const MOST_COUNT: usize = MOST_EDGES as usize;
 
 // The bytes of the step count.
-pub const STEP_BYTES: u32 = 3;
+pub const STEP_BYTES: u32 = 4;
 
 // The largest number of a job; the same as a list's length, and the first length above it.
-pub const MOST_NUMBER: u32 = 16383;
+pub const MOST_NUMBER: u32 = 2097151;
 
 pub const MOST_LENGTH: usize = MOST_NUMBER as usize;
 
 pub const TOO_LONG: usize = MOST_LENGTH + 1;
 
 // The longest job frame, in bytes.
-pub const JOB_MOST: usize = 1283;
+pub const JOB_MOST: usize = 1539;
 
 // The longest answer frame.
-pub const ANSWER_MOST: usize = 768;
+pub const ANSWER_MOST: usize = 1025;
 
 // The mark of a tree link.
 pub const TREE_MARK: u32 = 1;

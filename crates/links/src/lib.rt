@@ -75,7 +75,7 @@ pub fn links_refusal(
     0
 }
 
-// Question 1 over arrays: every number of the first `edges` links is at most 16,383.
+// Question 1 over arrays: every number of the first `edges` links is at most 2,097,151.
 fn links_small(
     edges: usize,
     end1: &[u32; 256],

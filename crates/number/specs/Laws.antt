@@ -150,6 +150,14 @@ pub decode-size :
     (k : ℕ) (s : List ℕ) (v n : ℕ) → decode k s ≡ number v n → (0 < n) × (n ≤ length s) × (n ≤ k)
 decode-size k s v n e = begins-size (decode-begins k s v n e)
 
+-- A number stays one where more bytes are allowed.
+begins-wider : {k v n : ℕ} {s : List ℕ} → Begins k s v n → Begins (suc k) s v n
+begins-wider (last l) = last l
+begins-wider (more l p e r) = more l p e (begins-wider r)
+
+pub decode-wider : (k : ℕ) (s : List ℕ) (v n : ℕ) → decode k s ≡ number v n → decode (suc k) s ≡ number v n
+decode-wider k s v n e = begins-decode (begins-wider (decode-begins k s v n e))
+
 -- Two different byte strings never read as the same number.
 pub decode-injective :
     (k : ℕ) (s s′ : List ℕ) (v : ℕ) →
@@ -211,4 +219,16 @@ encode-size-most (suc k) x =
     elim (decLt x 128) [
       | yes l ↦ omega (arith, encode-size-last k x l)
       | no l ↦ omega (arith, encode-size-more k x (omega arith), encode-size-most k (x / 128))
+    ]
+
+-- A number below 128 ^ n takes at most n bytes, however many it may take.
+pub encode-size-below : (n k x : ℕ) → 0 < n → x < 128 ^ n → length (encode k x) ≤ n
+unfolding encode
+encode-size-below n zero x p h = omega arith
+encode-size-below zero (suc k) x p h = absurd (omega arith)
+encode-size-below (suc n) (suc k) x p h =
+    elim (decLt x 128) [
+      | yes l ↦ omega (arith, encode-size-last k x l)
+      | no l ↦ let top : x / 128 < 128 ^ n = omega (arith, pow-suc 128 n) in
+          omega (arith, encode-size-more k x (omega arith), encode-size-below n k (x / 128) (more-bytes n (x / 128) (omega arith) top) top)
     ]

@@ -1,11 +1,9 @@
 -- What the services give for a job frame is what is to be printed. Assumes nothing.
 use Prim.Native.Nat.{ℕ, _+_, _*_, _<_, _≤_}
 use native.Mathlib.Omega.{arith}
-use mathlib.Core.Path.{_≡_, refl, sym, ap, ap₂, subst, _∙_}
+use mathlib.Core.Path.{_≡_, sym, ap, ap₂, subst, _∙_}
 use mathlib.Core.Logic.{_≢_, ⊎-elim}
-use mathlib.Core.Bool.{true}
 use mathlib.Core.List.{List, _++_, map}
-use mathlib.Core.Option.{some}
 use lib.ListN.{length, getD, take, drop, length-take, length-append, List·getD-map}
 use lib.Seq.{take-at}
 use borrow.Author.Tests.{eq-eqb, ne-eqb}
@@ -13,7 +11,7 @@ use Rattle.limits.specs.Limits.{answerMost}
 use Rattle.loops.specs.GatherLaws.{getD-tabulate}
 use Rattle.number.specs.Number.{Bytes}
 use Rattle.optimum.specs.Optimum.{Pair, Answer}
-use Rattle.frame.specs.Job.{Job, JobLink, noLink, link, costOf}
+use Rattle.frame.specs.Job.{Job, noLink, costOf}
 use Rattle.frame.specs.Questions.{jobOf, refusal}
 use Rattle.frame.specs.Answers.{noPair, pairFrom, answerOf, readAnswer, judgeAnswer}
 use Rattle.frame.specs.AnswerMeaning.{answerFrame}
@@ -31,7 +29,7 @@ use Rattle.judging.specs.Verdicts.{verdict}
 use Rattle.reading.specs.declared.JobRead.{JobRead}
 use Rattle.reading.specs.declared.AnswerRead.{AnswerRead}
 use Rattle.reading.specs.JobsRead.{linkOf, givenOf, JobGiven}
-use Rattle.reading.specs.AnswersRead.{answerRead, readOf, AnswerGiven}
+use Rattle.reading.specs.AnswersRead.{answerRead, AnswerGiven}
 use Rattle.reading.specs.AnswerReadLaws.{pairs-most, pairs-back, read-some}
 use Rattle.text.specs.Text.{totalWord, refusedWord, wordLine, costLine, costLines, pairLine, pairLines, answerText}
 use Rattle.text.specs.TextLaws.{lines-same, word-line-most, cost-lines-most, pair-lines-most}
@@ -117,7 +115,7 @@ module _ (s : List ℕ) (b : Bytes s) (area : List ℕ) (room : length area ≡ 
           ap₂ linesOf job-is answer-is ∙ lines-text (jobOf s) (is-accepted .edge-limit) (answerOf (jobOf s)) pairs-few ∙
           shown (sym number ∙ z)
 
--- A buffer of 20,480 bytes is long enough.
+-- The room for a text is long enough.
 pub lines-fit : (j : JobRead) (a : AnswerRead) → j .count ≤ 256 → a .count ≤ 64 → length (linesOf j a) ≤ textMost
 lines-fit j a k few =
     let total : List ℕ = wordLine totalWord (a .steps) in

@@ -21,7 +21,7 @@ firstLinks n ys = take n ys ++ replicate (n - length ys) zeroLink
 unfoldable pub columnPut : (Link → ℕ) → ℕ → List Link → List ℕ → List ℕ
 columnPut f i ys old = take i (map f ys) ++ drop i old
 
--- No number of a link is above 16,383 (question 1).
+-- No number of a link is above 2,097,151 (question 1).
 abbrev pub smallLink : Link → Bool
 smallLink l = leb (l .end1) maxNumber && leb (l .end2) maxNumber && leb (l .cost) maxNumber && leb (l .mark) maxNumber
 
@@ -29,7 +29,7 @@ smallLink l = leb (l .end1) maxNumber && leb (l .end2) maxNumber && leb (l .cost
 abbrev pub smallTo : ℕ → List Link → Bool
 smallTo n ys = allBelow n λ e. smallLink (getD ys e zeroLink)
 
--- No number of the first 16,384 links of a list is, or of all its links if it has fewer: a list longer than 16,383 is refused
+-- No number of the first 2,097,152 links of a list is, or of all its links if it has fewer: a list longer than 2,097,151 is refused
 -- whatever it holds, so its links beyond are not looked at.
 abbrev pub allSmall : List Link → Bool
 allSmall ys = smallTo (min (length ys) (maxNumber + 1)) ys

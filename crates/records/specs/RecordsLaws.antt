@@ -154,7 +154,7 @@ small-more i ys = rw (one-more i) refl
 pub all-small-whole : (ys : List Link) → length ys ≤ maxNumber → allSmall ys ≡ smallTo (length ys) ys
 all-small-whole ys h = ap (λ (k : ℕ). smallTo k ys) (omega arith)
 
--- The digits of two numbers at once: 16,383 has every digit below its highest.
+-- The digits of two numbers at once: 2,097,151 has every digit below its highest.
 or-small : (a b : ℕ) → leb (bitOr a b) maxNumber ≡ (leb a maxNumber && leb b maxNumber)
 or-small a b = of (decLt maxNumber a) (decLt maxNumber b)
   where

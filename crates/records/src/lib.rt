@@ -17,7 +17,7 @@ pub struct Link {
     pub mark: u32,
 }
 
-// Every number of the link is at most 16,383. The digits of all four are tested at once: 16,383 has every digit below its
+// Every number of the link is at most 2,097,151. The digits of all four are tested at once: 2,097,151 has every digit below its
 // highest.
 fn small(l: Link) -> bool
     ensures { λ r. ⌜ r ≡ smallLink l ⌝ }
@@ -42,7 +42,7 @@ fn at_most(n: usize, most: usize) -> usize
     most
 }
 
-// What is handed on of a lent list: its length, whether every number is at most 16,383, and its first 256 links, zeros behind
+// What is handed on of a lent list: its length, whether every number is at most 2,097,151, and its first 256 links, zeros behind
 // the last.
 pub struct ListCopy {
     pub count: usize,
@@ -50,7 +50,7 @@ pub struct ListCopy {
     pub links: [Link; 256],
 }
 
-// A list longer than 16,383 is refused whatever it holds: of it only the first 16,384 links are looked at.
+// A list longer than 2,097,151 is refused whatever it holds: of it only the first 2,097,152 links are looked at.
 pub fn copy_list(list: &[Link]) -> ListCopy
     ensures { λ r. ⌜ r ≡ listCopy (now (list .entry)) ⌝ }
 {

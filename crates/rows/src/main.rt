@@ -121,13 +121,13 @@ fn show_contents(name: &[u8], frame: &[u8], offered: &[u8]) {
 }
 
 // A link of the longest job with the longest answer: the tree, a path, stands last; before it a cheap spare along each of its
-// links; before those dear spares. Every cost takes two bytes, and so does the number of every link that is paired.
+// links; before those dear spares. Every cost takes three bytes, the number of every link that is paired two.
 fn long_link(e: u32) -> Link {
     if e < 130 {
         return Link {
             end1: 0,
             end2: 1,
-            cost: 16383,
+            cost: 2097151,
             mark: 0,
         };
     }
@@ -135,14 +135,14 @@ fn long_link(e: u32) -> Link {
         return Link {
             end1: e - 130,
             end2: e - 129,
-            cost: 128,
+            cost: 16384,
             mark: 0,
         };
     }
     Link {
         end1: e - 193,
         end2: e - 192,
-        cost: 16383,
+        cost: 2097151,
         mark: 1,
     }
 }
@@ -201,14 +201,14 @@ fn show_total(name: &[u8], answer: &[u8]) {
 
 // The longest job and its answer, each in an area that is a byte too short and in one that just suffices.
 fn longest() {
-    let mut short_frame = [170u8; 1282];
-    write_long(b"64 stations, 256 links, 1282 bytes", &mut short_frame);
+    let mut short_frame = [170u8; 1538];
+    write_long(b"64 stations, 256 links, 1538 bytes", &mut short_frame);
     let mut frame = [170u8; limits::JOB_MOST];
-    write_long(b"64 stations, 256 links, 1283 bytes", &mut frame);
-    let mut short_area = [170u8; 767];
-    answer_long(b"their answer, 767 bytes", &frame, &mut short_area);
+    write_long(b"64 stations, 256 links, 1539 bytes", &mut frame);
+    let mut short_area = [170u8; 1024];
+    answer_long(b"their answer, 1024 bytes", &frame, &mut short_area);
     let mut area = [170u8; limits::ANSWER_MOST];
-    answer_long(b"their answer, 768 bytes", &frame, &mut area);
+    answer_long(b"their answer, 1025 bytes", &frame, &mut area);
     show_total(b"their total ", &area);
     show_verdict(b"their answer", judging::judge_answer(&frame, &area));
     show_part(b"their link 255", finding::find_link(&frame, Edge(255)));
@@ -219,10 +219,14 @@ fn refusals() {
     show_refusal(b"65 stations", b"\x41\x00");
     show_refusal(b"no station", b"\x00\x00");
     show_refusal(b"a cut number", b"\x80");
-    show_refusal(b"a number of three bytes", b"\xff\xff\x01");
+    show_refusal(b"a number of four bytes", b"\xff\xff\xff\x01");
+    show_refusal(b"a third byte of 00", b"\x80\x80\x00");
+    show_refusal(b"32767 alone", b"\xff\xff\x01");
     show_refusal(b"a link missing", b"\x01\x01");
     show_refusal(b"257 links", b"\x02\x81\x02");
     show_refusal(b"256 links, all missing", b"\x02\x80\x02");
+    show_refusal(b"an end of 16384", b"\x02\x01\x00\x80\x80\x01\x05\x01");
+    show_refusal(b"a mark of 16384", b"\x02\x01\x00\x01\x05\x80\x80\x01");
 }
 
 fn answers(t1: &[u8]) {
@@ -358,11 +362,11 @@ fn cycles() {
 fn limits() {
     show_verdict(
         b"spare at the highest cost",
-        judging::judge(b"\x03\x03\x00\x01\x00\x01\x01\x02\xff\x7f\x01\x00\x02\xff\x7f\x00"),
+        judging::judge(b"\x03\x03\x00\x01\x00\x01\x01\x02\xff\xff\x7f\x01\x00\x02\xff\xff\x7f\x00"),
     );
     show_verdict(
         b"spare just below the highest cost",
-        judging::judge(b"\x03\x03\x00\x01\x00\x01\x01\x02\xff\x7f\x01\x00\x02\xfe\x7f\x00"),
+        judging::judge(b"\x03\x03\x00\x01\x00\x01\x01\x02\xff\xff\x7f\x01\x00\x02\xfe\xff\x7f\x00"),
     );
     show_verdict(
         b"all costs 0",
@@ -370,7 +374,7 @@ fn limits() {
     );
     show_verdict(
         b"tree at the highest cost, spare at 0",
-        judging::judge(b"\x03\x03\x00\x01\xff\x7f\x01\x01\x02\xff\x7f\x01\x00\x02\x00\x00"),
+        judging::judge(b"\x03\x03\x00\x01\xff\xff\x7f\x01\x01\x02\xff\xff\x7f\x01\x00\x02\x00\x00"),
     );
 }
 

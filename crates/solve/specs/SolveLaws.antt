@@ -20,6 +20,7 @@ use Rattle.optimum.specs.Search.{Problem, matching}
 use Rattle.optimum.specs.Lowest.{labels}
 use Rattle.optimum.specs.Solve.{problem, newCosts, partners, pairAt, gap, solve}
 use Rattle.optimum.specs.Range.{pairs-few}
+use Rattle.limits.specs.Limits.{stepBytes}
 use Rattle.frame.specs.Job.{Job, link, graphOf, treeOf, costOf}
 use Rattle.frame.specs.Arrays.{Arrays}
 use Rattle.frame.specs.Answers.{answerOf}
@@ -32,7 +33,7 @@ use Rattle.codec.specs.Held.{answerAt}
 use Rattle.answer.specs.Contents.{matePairs, PairsListed}
 use Rattle.covering.specs.Rows.{covers, RanksFall, RanksRise, Ends}
 use Rattle.held.specs.Held.{Held}
-use Rattle.held.specs.HeldLaws.{few-nodes, tree-count, tree-price}
+use Rattle.held.specs.HeldLaws.{tree-count, tree-price}
 use Rattle.solve.specs.Solving.{SparesRanked, RowsFilled, MatesPlaced}
 
 module _ {j : Job} {n m : ℕ} {a : Arrays} (h : Held j n m a) where
@@ -161,7 +162,7 @@ module _ {j : Job} {n m : ℕ} {a : Arrays} (h : Held j n m a) where
         let v = h .accepted in
         omega (arith, ap length pairs-are, pairs-few (own j v), v .tree .size, v .node-limit)
 
-    pub small-steps : sum m (λ e. gap (getD costs e 0) (getD (a .links .cost) e 0)) < 128 ^ 3
+    pub small-steps : sum m (λ e. gap (getD costs e 0) (getD (a .links .cost) e 0)) < 128 ^ stepBytes
     small-steps = omega (arith, steps-are, own-layout j (h .accepted) .step-limit)
 
     pub answer-is :

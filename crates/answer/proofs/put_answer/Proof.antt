@@ -11,7 +11,7 @@ use Rattle.limits.specs.Limits.{numberBytes, stepBytes}
 use Rattle.frame.specs.Job.{bytesOf}
 use Rattle.codec.specs.Numbers.{numbersAt, Put}
 use Rattle.codec.specs.WritingLaws.{put-more, put-room}
-use Rattle.codec.specs.HeldLaws.{answer-bytes, answer-length}
+use Rattle.codec.specs.HeldLaws.{answer-bytes, front-length, answer-length}
 use Rattle.answer.proofs.put_answer.Statement.{statement}
 use Rattle.answer.proofs.put_answer.Tie as tie
 
@@ -32,7 +32,12 @@ pairs s = bytesOf (numbersAt (2 * s .args .count) (s .args .pairs .now))
 whole : (s : tie.Start) → s .args .at + (length (steps s) + length (costs s) + length (count s) + length (pairs s)) ≤ length (s .args .area .now)
 whole s =
     let a = s .args in
-    omega (arith, s .pre .1 .1, answer-length (a .steps) (a .edges) (a .costs .now) (a .count) (a .pairs .now))
+    omega (
+      arith,
+      s .pre .1 .1,
+      front-length (a .steps) (a .edges) (a .costs .now) (a .count),
+      answer-length (a .steps) (a .edges) (a .costs .now) (a .count) (a .pairs .now),
+    )
 
 -- the parts put so far
 abbrev Done : tie.Start → List ℕ → ℕ → List ℕ → Type 0

@@ -21,9 +21,9 @@ Inv-loop values count total₀ i₀ total i = (i ≤ count) × (total ≡ length
 abbrev μ-loop : tie.MeasureT-loop
 μ-loop values count total₀ i₀ total i = count - i
 
--- a number takes at most two bytes
-two-most : (n x : ℕ) → n ≡ length (encode numberBytes x) → n ≤ 2
-two-most n x e = omega (arith, e, encode-size-most numberBytes x)
+-- no number takes more bytes than it may
+few-bytes : (n x : ℕ) → n ≡ length (encode numberBytes x) → n ≤ numberBytes
+few-bytes n x e = omega (arith, e, encode-size-most numberBytes x)
 
 loop-holds : tie.Need-loop-holds Inv-loop μ-loop
 unfolding gather flatMap
@@ -41,7 +41,7 @@ size-short-requires c κs = search needs
 add-total : tie.Need-add-total Inv-loop μ-loop
 add-total c =
     let l = c .before .before .before in
-    omega (arith, two-most (c .size-short .result) _ (c .size-short .ensures), size-short (l .before .before .args .values .now) (l .loop .i))
+    omega (arith, few-bytes (c .size-short .result) _ (c .size-short .ensures), size-short (l .before .before .args .values .now) (l .loop .i))
 
 add-i : tie.Need-add-i Inv-loop μ-loop
 add-i c = omega arith

@@ -31,6 +31,12 @@ add-may-follow c = omega arith
 shared-slice-read-may-follow-2 : tie.Need-shared-slice-read-may-follow-2 Inv-loop μ-loop
 shared-slice-read-may-follow-2 c = omega arith
 
+add-may-follow-2 : tie.Need-add-may-follow-2 Inv-loop μ-loop
+add-may-follow-2 c = omega arith
+
+shared-slice-read-may-follow-3 : tie.Need-shared-slice-read-may-follow-3 Inv-loop μ-loop
+shared-slice-read-may-follow-3 c = omega arith
+
 may-follow-requires : tie.Need-may-follow-requires Inv-loop μ-loop
 may-follow-requires c κs = search needs
 
@@ -42,7 +48,7 @@ loop-less c = omega arith
 
 loop-again : tie.Need-loop-again Inv-loop μ-loop
 loop-again c =
-    let l = c .before .before .before .before in
+    let l = c .before .before .before .before .before in
     let a = l .before .before .args in
     (omega arith, all-next (l .loop .k) (λ j. followed (a .frame .now) (a .at + j)) _ _ (l .loop .inv .1) (c .may-follow .ensures))
 
@@ -60,6 +66,8 @@ block-divides-spec =
     shared-slice-read-may-follow
     add-may-follow
     shared-slice-read-may-follow-2
+    add-may-follow-2
+    shared-slice-read-may-follow-3
     may-follow-requires
     add-k
     loop-less

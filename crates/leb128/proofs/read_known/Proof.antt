@@ -1,64 +1,60 @@
--- `leb128::read_known` meets its contract: the tests that it leaves out cannot fail. Assumes nothing.
-use Prim.Native.Nat.{_+_, _≤_, _<_}
+-- `leb128::read_known` meets its contract: a byte, and behind it a number of at most two more. Assumes nothing.
+use Prim.Native.Nat.{_+_, _^_, _≤_, _<_}
 use native.Mathlib.Omega.{arith}
 use lib.ListN.{length, getD}
-use Rattle.leb128.proofs.Steps.{read-last, known-first, known-second, known-ends, known-value}
+use Rattle.leb128.proofs.Steps.{some-byte, read-last, read-bound, known-first, known-rest, known-value}
 use Rattle.leb128.proofs.read_known.Statement.{statement}
 use Rattle.leb128.proofs.read_known.Tie as tie
 
--- the number's bytes lie within the slice, and the second ends it
+-- the first byte lies within the slice
 within : (k : tie.Start) → k .args .at < length (k .args .bytes .now)
-within k = known-first (k .args .bytes .now) (k .args .at) (k .pre)
+within k = known-first 3 (k .args .bytes .now) (k .args .at) (some-byte 2) (k .pre)
 
-more : (k : tie.Else1) → 128 ≤ getD (k .before .before .args .bytes .now) (k .before .before .args .at) 0
+more : (k : tie.Else1) → 128 ≤ getD (k .before .before .before .args .bytes .now) (k .before .before .before .args .at) 0
 more k = omega (arith, k .if1 .left)
 
-inside : (k : tie.Else1) → k .before .before .args .at + 1 < length (k .before .before .args .bytes .now)
-inside k =
-    let a = k .before .before .args in
-    known-second (a .bytes .now) (a .at) (k .before .before .pre) (more k)
-
-ends : (k : tie.Else1) → getD (k .before .before .args .bytes .now) (k .before .before .args .at + 1) 0 < 128
-ends k =
-    let a = k .before .before .args in
-    known-ends (a .bytes .now) (a .at) (k .before .before .pre) (more k)
+-- what stands behind it is below 128 ^ 2
+upper : (k : tie.After-known-two) → k .known-two .result .value < 128 ^ 2
+upper k =
+    let e = k .before in
+    read-bound 2 2 (e .before .before .before .args .bytes .now) (e .before .before .before .args .at + 1) _ _ (omega arith)
+    (λ i. e .before .shared-slice-known2 .given i .fits) (k .known-two .ensures)
 
 shared-slice-read-first : tie.Need-shared-slice-read-first
-shared-slice-read-first c = known-first _ _ (c .before .pre)
+shared-slice-read-first c = within (c .before .before)
 
 cast-first : tie.Need-cast-first
-cast-first c = omega (arith, c .shared-slice-known .given (c .before .args .at))
+cast-first c = omega (arith, c .shared-slice-known2 .given (c .before .before .args .at))
 
-add-t9 : tie.Need-add-t9
-add-t9 c = omega (arith, within (c .before .before))
+add-t8 : tie.Need-add-t8
+add-t8 c = omega (arith, within (c .before .before .before))
 
 returns : tie.Need-returns
 returns c =
-    let a = c .before .before .args in
-    read-last 2 (a .bytes .now) (a .at) (λ e. omega (arith, e)) (within (c .before .before)) (c .if1 .taken)
+    let a = c .before .before .before .args in
+    read-last 3 (a .bytes .now) (a .at) (some-byte 2) (within (c .before .before .before)) (c .if1 .taken)
 
-add-last : tie.Need-add-last
-add-last c = omega (arith, within (c .before .before))
+add-known-two : tie.Need-add-known-two
+add-known-two c = omega (arith, within (c .before .before .before))
 
-shared-slice-read-group : tie.Need-shared-slice-read-group
-shared-slice-read-group c = inside (c .before)
+known-two-requires : tie.Need-known-two-requires
+known-two-requires c κs =
+    let k = c .before .before .before in
+    known-rest 3 (k .args .bytes .now) (k .args .at) (some-byte 2) (k .pre) (more c)
 
-cast-group : tie.Need-cast-group
-cast-group c = omega (arith, ends (c .before))
+mul-t11 : tie.Need-mul-t11
+mul-t11 c = omega (arith, upper (c .before))
 
-mul-t12 : tie.Need-mul-t12
-mul-t12 c = omega (arith, ends (c .before))
-
-add-t13 : tie.Need-add-t13
-add-t13 c = omega (arith, ends (c .before), c .before .before .shared-slice-known .given (c .before .before .before .args .at))
-
-add-t14 : tie.Need-add-t14
-add-t14 c = omega (arith, inside (c .before))
+add-t12 : tie.Need-add-t12
+add-t12 c =
+    let e = c .before .before .before in
+    omega (arith, upper (c .before), e .shared-slice-known2 .given (e .before .before .args .at))
 
 returns-2 : tie.Need-returns-2
 returns-2 c =
-    let a = c .before .before .before .args in
-    known-value (a .bytes .now) (a .at) (c .before .before .before .pre) (more (c .before))
+    let e = c .before .before in
+    let k = e .before .before .before in
+    known-value 3 (k .args .bytes .now) (k .args .at) (some-byte 2) (k .pre) (more e) _ _ (c .before .known-two .ensures)
 
 pub read-known-spec : {M : Type 1} → statement M
 read-known-spec =
@@ -66,12 +62,10 @@ read-known-spec =
     (tie.spec
     shared-slice-read-first
     cast-first
-    add-t9
+    add-t8
     returns
-    add-last
-    shared-slice-read-group
-    cast-group
-    mul-t12
-    add-t13
-    add-t14
+    add-known-two
+    known-two-requires
+    mul-t11
+    add-t12
     returns-2)

@@ -1,107 +1,110 @@
--- `leb128::read_short` meets its contract: each return is a case of two steps of `decode`. Assumes nothing.
-use Prim.Native.Nat.{_+_, _≤_, _<_}
+-- `leb128::read_short` meets its contract: a byte, and behind it a number of at most two more. Assumes nothing.
+use Prim.Native.Nat.{_+_, _^_, _≤_, _<_}
 use native.Mathlib.Omega.{arith}
-use mathlib.Core.Path.{sym}
+use mathlib.Core.Path.{_≡_, sym, _∙_}
 use lib.ListN.{length, getD}
-use Rattle.leb128.proofs.Steps.{read-end, read-last, cut-off, too-long, not-shortest, two-bytes}
+use Rattle.leb128.specs.Positions.{readAt}
+use Rattle.leb128.specs.declared.Number.the-variants.{Value}
+use Rattle.leb128.proofs.Steps.{some-byte, read-end, read-last, read-refused, read-long, read-value, read-bound}
 use borrow.Author.Needs.{needs}
 use Rattle.leb128.proofs.read_short.Statement.{statement}
 use Rattle.leb128.proofs.read_short.Tie as tie
 
 returns : tie.Need-returns
 returns c =
-    let a = c .before .args in
-    sym (read-end 2 (a .bytes .now) (a .at) (omega (arith, c .if1 .taken)))
+    let a = c .before .before .args in
+    sym (read-end 3 (a .bytes .now) (a .at) (omega (arith, c .if1 .taken)))
 
-shared-slice-read-low : tie.Need-shared-slice-read-low
-shared-slice-read-low c = search needs
+shared-slice-read-first : tie.Need-shared-slice-read-first
+shared-slice-read-first c = search needs
 
-cast-low : tie.Need-cast-low
-cast-low c = omega (arith, c .shared-slice-known .given (c .before .before .args .at))
+cast-first : tie.Need-cast-first
+cast-first c = omega (arith, c .shared-slice-known2 .given (c .before .before .before .args .at))
 
-add-t10 : tie.Need-add-t10
-add-t10 c = search needs
+add-t11 : tie.Need-add-t11
+add-t11 c = search needs
 
 returns-2 : tie.Need-returns-2
 returns-2 c =
     let e = c .before .before in
-    let a = e .before .args in
-    sym (read-last 2 (a .bytes .now) (a .at) (λ e. omega (arith, e)) (omega (arith, e .if1 .left)) (c .if2 .taken))
+    let a = e .before .before .args in
+    sym (read-last 3 (a .bytes .now) (a .at) (some-byte 2) (omega (arith, e .if1 .left)) (c .if2 .taken))
 
-add-second : tie.Need-add-second
-add-second c = search needs
+add-read-two : tie.Need-add-read-two
+add-read-two c = search needs
+
+read-two-requires : tie.Need-read-two-requires
+read-two-requires c κs = search needs
+
+enum-known-rest : tie.Need-enum-known-rest
+enum-known-rest c = search needs
+
+enum-told : tie.Need-enum-told
+enum-told c = search needs
+
+-- the first byte says that more follow, and lies within the slice
+within : (e : tie.Else2) → e .before .before .before .before .args .at < length (e .before .before .before .before .args .bytes .now)
+within e = omega (arith, e .before .before .if1 .left)
+
+more : (e : tie.Else2) → 128 ≤ getD (e .before .before .before .before .args .bytes .now) (e .before .before .before .before .args .at) 0
+more e = omega (arith, e .if2 .left)
 
 returns-3 : tie.Need-returns-3
 returns-3 c =
-    let f = c .before in
-    let a = f .before .before .before .args in
-    sym (cut-off (a .bytes .now) (a .at) (omega (arith, f .before .before .if1 .left)) (omega (arith, f .if2 .left)) (omega (arith, c .if3 .taken)))
+    let e = c .before .before .before in
+    let a = e .before .before .before .before .args in
+    sym (read-refused 3 (a .bytes .now) (a .at) (some-byte 2) (within e) (more e) (sym (c .before .before .read-two .ensures) ∙ c .enum-told .given .1))
 
-shared-slice-read-high : tie.Need-shared-slice-read-high
-shared-slice-read-high c = search needs
+-- what stands behind the first byte, below 128 ^ 2
+found :
+    (r : tie.After-rest) →
+    let a = r .before .before .before .before .before .before .before .args in
+    readAt 2 (a .bytes .now) (a .at + 1) ≡ Value (r .rest .given .0 .0) (r .rest .given .0 .1 .0)
+found r = sym (r .before .before .read-two .ensures) ∙ r .rest .given .1
 
-cast-high : tie.Need-cast-high
-cast-high c = omega (arith, c .shared-slice-known2 .given (c .before .before .before .before .before .args .at + 1))
+upper : (r : tie.After-rest) → r .rest .given .0 .0 < 128 ^ 2
+upper r =
+    let k = r .before .before .before .before in
+    let a = k .before .before .before .args in
+    read-bound 2 2 (a .bytes .now) (a .at + 1) _ _ (omega arith) (λ i. k .shared-slice-known2 .given i .fits) (found r)
 
 returns-4 : tie.Need-returns-4
 returns-4 c =
-    let g = c .before .before in
-    let f = g .before in
-    let a = f .before .before .before .args in
-    sym (too-long (a .bytes .now) (a .at) (omega (arith, f .before .before .if1 .left)) (omega (arith, f .if2 .left)) (omega (arith, g .if3 .left))
-    (omega (arith, c .if4 .taken)))
-
-returns-5 : tie.Need-returns-5
-returns-5 c =
-    let h = c .before in
-    let g = h .before .before in
-    let f = g .before in
-    let a = f .before .before .before .args in
-    let within : a .at < length (a .bytes .now) = omega (arith, f .before .before .if1 .left) in
-    let more : 128 ≤ getD (a .bytes .now) (a .at) 0 = omega (arith, f .if2 .left) in
-    sym (not-shortest (a .bytes .now) (a .at) within more (omega (arith, g .if3 .left)) (omega (arith, h .if4 .left)) (c .if5 .taken))
+    let r = c .before .before in
+    let e = r .before .before .before in
+    let a = e .before .before .before .before .args in
+    sym (read-long 3 (a .bytes .now) (a .at) (some-byte 2) (within e) (more e) _ _ (found r) (c .if3 .taken))
 
 mul-t13 : tie.Need-mul-t13
-mul-t13 c = search needs
+mul-t13 c = omega (arith, upper (c .before .before))
 
 add-t14 : tie.Need-add-t14
 add-t14 c =
-    omega (
-      arith,
-      c .before .if4 .left,
-      c .before .before .before .before .before .shared-slice-known .given
-          (c .before .before .before .before .before .before .before .args .at),
-    )
+    let k = c .before .before .before .before .before .before in
+    omega (arith, upper (c .before .before), k .shared-slice-known2 .given (k .before .before .before .args .at))
 
-add-t6 : tie.Need-add-t6
-add-t6 c = search needs
-
-returns-6 : tie.Need-returns-6
-returns-6 c =
-    let h = c .before in
-    let g = h .before .before in
-    let f = g .before in
-    let a = f .before .before .before .args in
-    let within : a .at < length (a .bytes .now) = omega (arith, f .before .before .if1 .left) in
-    let more : 128 ≤ getD (a .bytes .now) (a .at) 0 = omega (arith, f .if2 .left) in
-    sym (two-bytes (a .bytes .now) (a .at) within more (omega (arith, g .if3 .left)) (omega (arith, h .if4 .left)) (c .if5 .left))
+returns-5 : tie.Need-returns-5
+returns-5 c =
+    let r = c .before .before in
+    let e = r .before .before .before in
+    let a = e .before .before .before .before .args in
+    sym (read-value 3 (a .bytes .now) (a .at) (some-byte 2) (within e) (more e) _ _ (found r) (c .if3 .left))
 
 pub read-short-spec : {M : Type 1} → statement M
 read-short-spec =
     tie.close
     (tie.spec
     returns
-    shared-slice-read-low
-    cast-low
-    add-t10
+    shared-slice-read-first
+    cast-first
+    add-t11
     returns-2
-    add-second
+    add-read-two
+    read-two-requires
+    enum-known-rest
+    enum-told
     returns-3
-    shared-slice-read-high
-    cast-high
     returns-4
-    returns-5
     mul-t13
     add-t14
-    add-t6
-    returns-6)
+    returns-5)

@@ -1,5 +1,5 @@
--- `leb128_write::write_short` meets its contract: one byte, or the first and the last of `encode`. Assumes nothing.
-use Prim.Native.Nat.{ℕ, _+_, _/_, _%_, _≤_, _<_}
+-- `leb128_write::write_short` meets its contract: one byte, or the first of `encode` and the rest by `write_two`. Assumes nothing.
+use Prim.Native.Nat.{_+_, _/_, _%_}
 use native.Mathlib.Numerals.{add-one}
 use native.Mathlib.Omega.{arith}
 use mathlib.Core.Path.{_≡_, refl, ap, _∙_}
@@ -11,17 +11,21 @@ use borrow.Author.Needs.{needs}
 use Rattle.leb128_write.proofs.write_short.Statement.{statement}
 use Rattle.leb128_write.proofs.write_short.Tie as tie
 
-short : (x : ℕ) → x < 128 → encode 2 x ≡ x ∷ []
-short x l = encode-last 2 x (λ e. omega (arith, e)) l
+-- what is to be written where the number is below 128, and where it is not
+last : (c : tie.Then1) → encode 3 (c .before .before .args .x) ≡ c .before .before .args .x ∷ []
+last c = encode-last 3 (c .before .before .args .x) (λ e. omega (arith, e)) (c .if1 .taken)
 
-long : (x b : ℕ) → 128 ≤ x → encode 1 (x / 128) ≡ b ∷ [] → encode 2 x ≡ (x % 128 + 128) ∷ b ∷ []
-long x b l e = encode-more 2 x (λ e. omega (arith, e)) l ∙ ap (λ s. (x % 128 + 128) ∷ s) e
+more :
+    (c : tie.Else1) →
+    let x = c .before .before .args .x in
+    encode 3 x ≡ (x % 128 + 128) ∷ encode 2 (x / 128)
+more c = encode-more 3 (c .before .before .args .x) (λ e. omega (arith, e)) (omega (arith, c .if1 .left))
 
 cast-area : tie.Need-cast-area
 cast-area c = search needs
 
 slice-write-area : tie.Need-slice-write-area
-slice-write-area c = omega (arith, ap length (short (c .before .before .args .x) (c .if1 .taken)))
+slice-write-area c = omega (arith, ap length (last c))
 
 add-result : tie.Need-add-result
 add-result c = search needs
@@ -30,7 +34,7 @@ same-length : tie.Need-same-length
 same-length c = search needs
 
 returns : tie.Need-returns
-returns c = rw (short (c .before .before .args .x) (c .if1 .taken)) (refl, refl)
+returns c = rw (last c) (refl, refl)
 
 add-area : tie.Need-add-area
 add-area c = search needs
@@ -38,31 +42,22 @@ add-area c = search needs
 cast-area-2 : tie.Need-cast-area-2
 cast-area-2 c = search needs
 
-returns-2 : tie.Need-returns-2
-returns-2 c =
-    let e = c .before in
-    rw (long (e .before .before .args .x) _ (omega (arith, e .if1 .left)) (c .last-byte .ensures)) (omega arith, rw add-one refl)
-
 slice-write-area-2 : tie.Need-slice-write-area-2
-slice-write-area-2 c =
-    omega (arith, ap length (encode-more 2 (c .before .before .args .x) (λ e. omega (arith, e)) (omega (arith, c .if1 .left))))
+slice-write-area-2 c = omega (arith, ap length (more c))
 
-add-second : tie.Need-add-second
-add-second c = search needs
+add-write-two : tie.Need-add-write-two
+add-write-two c = search needs
 
-last-byte-requires : tie.Need-last-byte-requires
-last-byte-requires c κs = search needs
-
-slice-write-area-3 : tie.Need-slice-write-area-3
-slice-write-area-3 c =
-    let e = c .before in
-    simp length-set (omega (arith, ap length (long (e .before .before .args .x) _ (omega (arith, e .if1 .left)) (c .last-byte .ensures))))
-
-add-result-2 : tie.Need-add-result-2
-add-result-2 c = search needs
+write-two-requires : tie.Need-write-two-requires
+write-two-requires c κs = simp length-set (omega (arith, ap length (more (c .before))))
 
 same-length-2 : tie.Need-same-length-2
-same-length-2 c = search needs
+same-length-2 c = c .before .before .write-two .kept .0 ∙ simp length-set
+
+returns-2 : tie.Need-returns-2
+returns-2 c =
+    rw (more (c .before .before .before .before))
+    (omega arith, rw add-one at (c .before .before .write-two .ensures .1))
 
 pub write-short-spec : {M : Type 1} → statement M
 write-short-spec =
@@ -76,9 +71,7 @@ write-short-spec =
     add-area
     cast-area-2
     slice-write-area-2
-    add-second
-    last-byte-requires
-    slice-write-area-3
-    add-result-2
+    add-write-two
+    write-two-requires
     same-length-2
     returns-2)

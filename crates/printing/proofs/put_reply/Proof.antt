@@ -1,11 +1,12 @@
--- `printing::put_reply` meets its contract: the text of the answer, or of the refusal. An area of 768 bytes and a buffer of
--- 20,480 are never too short. Assumes nothing.
+-- `printing::put_reply` meets its contract: the text of the answer, or of the refusal. An area for the longest answer and
+-- a buffer for the longest text are never too short. Assumes nothing.
 use Prim.Native.Nat.{ℕ, _≤_}
 use native.Mathlib.Omega.{arith}
 use mathlib.Core.Path.{_≡_, sym, _∙_}
 use lib.ListN.{length, replicate, length-replicate}
 use lib.Seq.{length-take-le}
 use borrow.Author.Needs.{needs}
+use Rattle.limits.specs.Limits.{answerMost}
 use Rattle.number.specs.Number.{Bytes}
 use Rattle.text.specs.Text.{refusedWord}
 use Rattle.text.specs.TextLaws.{word-line-most, put-text}
@@ -14,8 +15,8 @@ use Rattle.printing.proofs.put_reply.Statement.{statement}
 use Rattle.printing.proofs.put_reply.Tie as tie
 
 -- The area's length.
-room : length (replicate {A = ℕ} 768 0) ≡ 768
-room = length-replicate {A = ℕ} 768 0
+room : length (replicate {A = ℕ} answerMost 0) ≡ answerMost
+room = length-replicate {A = ℕ} answerMost 0
 
 bytes : (c : tie.After-answer) → Bytes (c .before .before .before .before .args .frame .now)
 bytes c i = c .before .before .before .shared-slice-known .given i .fits

@@ -157,7 +157,7 @@ module _ {M : Type 1} (𝓤 : URA M) (H : Heap 𝓤) (A : Atoms 𝓤) (W : Given
       (S′.mir, l₀) ∷ (slice, l₁) ∷ (word, l₂) ∷ (word, l₃) ∷ (tyBool, l₄) ∷ (S′.mir, l₅) ∷ (word, l₆) ∷ (T′.mir, l₇) ∷ (T′.mir, l₈)
       ∷ (links, l₉) ∷ (tyBool, k₀) ∷ (word, k₁) ∷ (tyPtr, k₂) ∷ (T′.mir, k₃) ∷ (word, k₄) ∷ (tyPtr, k₅) ∷ (tyPtr, k₆) ∷ []
 
-  module _ (n : ℕ) (which : n ≡ min (length ys) 16384) where
+  module _ (n : ℕ) (which : n ≡ min (length ys) 2097152) where
     in-list : n ≤ length ys
     in-list = omega (arith, which)
 
@@ -291,7 +291,7 @@ module _ {M : Type 1} (𝓤 : URA M) (H : Heap 𝓤) (A : Atoms 𝓤) (W : Given
           (init ! 16 refl (tt, tt)) $
           rewrite ! 16 (λ (t : Bool). ‵ (fat fullShare tyBool k₀ 0 (vbool t))) (le-ltb (i .0) n (omega arith)) refl $ leaves-loop !
           (reads ! (from ! (stop !)) (look ! 16 refl)) $
-          rewrite ! 3 (λ (xs : List Link). ‵ (row R fullShare xs l₅ 12)) (ap (λ (j : ℕ). firstLinks 256 (take j ys)) all ∙ firsts-all 256 16384 ys (lit≤ tt))
+          rewrite ! 3 (λ (xs : List Link). ‵ (row R fullShare xs l₅ 12)) (ap (λ (j : ℕ). firstLinks 256 (take j ys)) all ∙ firsts-all 256 2097152 ys (lit≤ tt))
           refl $ rewrite ! 27 (λ (t : Bool). ‵ (fat fullShare tyBool l₄ 0 (vbool t))) (ap (λ (j : ℕ). smallTo j ys) all) refl $
           exec ! C Λ En code-of.t-9 (atRet En Post) $
           move ! (3 ∷ []) $ use1 W (‵ (fat fullShare links l₅ 12 u) ⊛ ‵ (Links .own (firstLinks 256 ys) (u ∷ [])))
@@ -310,7 +310,7 @@ module _ {M : Type 1} (𝓤 : URA M) (H : Heap 𝓤) (A : Atoms 𝓤) (W : Given
           gone-room ! 16 refl refl $ gone ! 14 refl refl $ gone-room ! 12 refl refl $ gone-room ! 10 refl refl $ gone-room ! 8 refl refl $
           gone-room ! 6 refl refl $ gone-room ! 4 refl refl $ gone-room ! 2 refl refl $ free0 ! $ by ! (exits (copied told)))
         where
-          all : i .0 ≡ min (length ys) 16384
+          all : i .0 ≡ min (length ys) 2097152
           all = e ∙ which
 
           u : Val
@@ -350,7 +350,7 @@ module _ {M : Type 1} (𝓤 : URA M) (H : Heap 𝓤) (A : Atoms 𝓤) (W : Given
       starts =
           assigns ! (of-opd ! (reads ! (from ! (fld ! refl (stop !))) (look-in ! 30 (sub ! 1 refl (cell !))))) (from ! (stop !))
           (init ! 28 refl (tt, record { fits = p .0 .1 .0 })) $
-          counts W mem run (length ys) 16384 𝓣 bound (p .0 .1 .0) (lit< tt)
+          counts W mem run (length ys) 2097152 𝓣 bound (p .0 .1 .0) (lit< tt)
           (and-then ! (reads ! (from ! (stop !)) (look ! 29 refl)) (and-then ! (big-lit ! (lit< tt)) (no-more !))) (λ n which small.
           land ! (from ! (stop !)) (init ! 26 refl (tt, record { fits = small })) $
           assigns ! (of-opd ! (true-lit !)) (from ! (stop !)) (init ! 24 refl (tt, tt)) $
