@@ -1,21 +1,20 @@
 -- Laws of blocks: a block of a frame's bytes in which each has bytes behind it that may stand there counts as many numbers as
 -- it has last bytes. Assumes nothing.
 use Prim.Native.Nat.{ℕ, zero, suc, _+_, _*_, _-_, _<_, _≤_}
-use native.Mathlib.Numerals.{add-one}
 use native.Mathlib.Decide.{decLt}
 use native.Mathlib.Omega.{arith}
 use mathlib.Core.Path.{_≡_, refl, ap, sym, _∙_}
 use mathlib.Core.Bool.{true, not, _&&_, _||_}
-use mathlib.Core.List.{List, _∷_}
+use mathlib.Core.List.{List}
 use lib.Dec.{ltb, eqb}
 use lib.ListN.{length, getD, drop, length-drop}
-use lib.Seq.{drop-cons, drop-drop}
-use borrow.Author.Tests.{lt-ltb, le-ltb, ltb-true, eqb-false, not-true}
+use lib.Seq.{drop-drop}
+use borrow.Author.Tests.{le-ltb, ltb-true, eqb-false, not-true}
 use Rattle.loops.specs.Below.{allBelow, sum}
 use Rattle.loops.specs.TestLaws.{and-first, and-second}
 use Rattle.number.specs.Number.{Bytes, extend, decode}
 use Rattle.number.specs.Number.Decoded.{number, none}
-use Rattle.number.specs.Laws.{extend-zero, extend-more, decode-wider}
+use Rattle.number.specs.Laws.{extend-zero, extend-more, decode-one, decode-group, decode-wider}
 use Rattle.limits.specs.Limits.{numberBytes}
 use Rattle.frame.specs.Questions.{divide}
 use Rattle.frame.specs.Division.{divide-number, divide-none}
@@ -23,35 +22,18 @@ use Rattle.division.specs.declared.Numbers.{Numbers}
 use Rattle.division.specs.Counting.{countFrom, Counting, followed, continued}
 use Rattle.division.specs.CountingLaws.{count-more, count-number}
 
-drop-at : (s : List ℕ) (i : ℕ) → i < length s → drop i s ≡ getD s i 0 ∷ drop (i + 1) s
-drop-at s i l = rw (add-one, drop-cons s i 0)
+-- A byte from 128 on: in front of a number that is not 0 it begins one, in front of 0 or of no number none.
+module _ (k : ℕ) (s : List ℕ) (i : ℕ) (within : i < length s) (h : 128 ≤ getD s i 0) where
+  decode-first :
+      (v m : ℕ) → 0 < v → decode k (drop (i + 1) s) ≡ number v m → decode (suc k) (drop i s) ≡ number (getD s i 0 - 128 + 128 * v) (suc m)
+  decode-first v m p d = rw (decode-group k s i within h, d) (extend-more (getD s i 0 - 128) v m p)
 
--- A byte below 128 is a number.
-decode-one : (k : ℕ) (s : List ℕ) (i : ℕ) → i < length s → getD s i 0 < 128 → decode (suc k) (drop i s) ≡ number (getD s i 0) 1
-unfolding decode
-decode-one k s i l h = rw (drop-cons s i 0 l, lt-ltb (getD s i 0) 128 h)
+  decode-zero : (m : ℕ) → decode k (drop (i + 1) s) ≡ number 0 m → decode (suc k) (drop i s) ≡ none
+  decode-zero m d = rw (decode-group k s i within h, d) (extend-zero (getD s i 0 - 128) m)
 
--- A byte from 128 on and a number behind it that is not 0 are a number.
-decode-first :
-    (k : ℕ) (s : List ℕ) (i v m : ℕ) →
-    i < length s →
-    128 ≤ getD s i 0 →
-    0 < v →
-    decode k (drop (i + 1) s) ≡ number v m →
-    decode (suc k) (drop i s) ≡ number (getD s i 0 - 128 + 128 * v) (suc m)
-unfolding decode
-decode-first k s i v m l h p d = rw (drop-at s i l, le-ltb (getD s i 0) 128 h, d) (extend-more (getD s i 0 - 128) v m p)
-
--- In front of no number, or of 0, it is none.
-decode-none :
-    (k : ℕ) (s : List ℕ) (i : ℕ) → i < length s → 128 ≤ getD s i 0 → decode k (drop (i + 1) s) ≡ none → decode (suc k) (drop i s) ≡ none
-unfolding decode extend
-decode-none k s i l h d = rw (drop-at s i l, le-ltb (getD s i 0) 128 h, d)
-
-decode-zero :
-    (k : ℕ) (s : List ℕ) (i m : ℕ) → i < length s → 128 ≤ getD s i 0 → decode k (drop (i + 1) s) ≡ number 0 m → decode (suc k) (drop i s) ≡ none
-unfolding decode
-decode-zero k s i m l h d = rw (drop-at s i l, le-ltb (getD s i 0) 128 h, d) (extend-zero (getD s i 0 - 128) m)
+  decode-none : decode k (drop (i + 1) s) ≡ none → decode (suc k) (drop i s) ≡ none
+  unfolding extend
+  decode-none d = rw (decode-group k s i within h, d)
 
 -- The count goes on byte by byte. Behind a byte that is not the last nothing more is counted: what is left of its number, read
 -- alone, is a number too and counts for the whole; or neither is a number.
@@ -69,7 +51,7 @@ module _ (s : List ℕ) (i n : ℕ) (whole : Numbers) (c : Counting s i n whole)
       turn zero e q = absurd (omega arith)
       turn (suc k) e q =
           let behind : i + 1 + m ≡ i + suc m = omega arith in
-          let front = decode-first (numberBytes - 1) s i v m (omega arith) h p d in
+          let front = decode-first (numberBytes - 1) s i (omega arith) h v m p d in
           record {
             fuel = suc k;
             enough = omega arith;
@@ -137,12 +119,12 @@ count-rest s i n whole c l h f = of (decLt b 128) (decLt 0 d)
     of (yes m) _ = count-first s i n whole c (omega arith) h b 1 some (decode-one 1 s (i + 1) (omega arith) m)
     of (no m) (yes p) =
         count-first s i n whole c (omega arith) h (b - 128 + 128 * d) 2 (omega arith)
-        (decode-first 1 s (i + 1) d 1 (omega arith) (omega arith) p (third 0 (omega arith)))
+        (decode-first 1 s (i + 1) (omega arith) (omega arith) d 1 p (third 0 (omega arith)))
     of (no m) (no p) =
         let zero-last : (k : ℕ) → decode (suc k) (drop (i + 1 + 1) s) ≡ number 0 1 = λ k. rw nought at (third k (omega arith)) in
         count-none s i n whole c (omega arith)
-        (decode-none 2 s i (omega arith) h (decode-zero 1 s (i + 1) 1 (omega arith) (omega arith) (zero-last 0)))
-        (decode-zero 2 s (i + 1) 1 (omega arith) (omega arith) (zero-last 1))
+        (decode-none 2 s i (omega arith) h (decode-zero 1 s (i + 1) (omega arith) (omega arith) 1 (zero-last 0)))
+        (decode-zero 2 s (i + 1) (omega arith) (omega arith) 1 (zero-last 1))
       where
         nought : d ≡ 0
         nought = omega arith

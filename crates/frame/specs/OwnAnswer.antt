@@ -32,13 +32,13 @@ small-places : (xs : List ℕ) → ((i : ℕ) → i < length xs → getD xs i 0 
 small-places xs h i = elim (decLt i (length xs)) [ yes l ↦ h i l | no l ↦ omega (arith, List·getD-eq-default xs 0 {n = i} (omega arith)) ]
 
 -- No number of pairs is larger than their links' numbers.
-pairs-most :
+both-most :
     (most : ℕ) (ps : List Pair) → ((p : Pair) → List·Memᴰ p ps → (p .tree ≤ most) × (p .spare ≤ most)) → (i : ℕ) → getD (flatMap both ps) i 0 ≤ most
 unfolding flatMap
-pairs-most most [] h i = omega arith
-pairs-most most (p ∷ ps) h zero = h p (List·Memᴰ·head refl) .0
-pairs-most most (p ∷ ps) h (suc zero) = h p (List·Memᴰ·head refl) .1
-pairs-most most (p ∷ ps) h (suc (suc i)) = pairs-most most ps (λ q m. h q (List·Memᴰ·tail m)) i
+both-most most [] h i = omega arith
+both-most most (p ∷ ps) h zero = h p (List·Memᴰ·head refl) .0
+both-most most (p ∷ ps) h (suc zero) = h p (List·Memᴰ·head refl) .1
+both-most most (p ∷ ps) h (suc (suc i)) = both-most most ps (λ q m. h q (List·Memᴰ·tail m)) i
 
 -- Numbers of at most n bytes each.
 pub bytes-most : (n : ℕ) (ns : List ℕ) → ((i : ℕ) → length (encode numberBytes (getD ns i 0)) ≤ n) → length (bytesOf ns) ≤ n * length ns
@@ -79,7 +79,7 @@ module _ (j : Job) (accepted : Accepted j) where
 
   paired : (i : ℕ) → getD (flatMap both (answerOf j .pairs)) i 0 ≤ maxEdges
   paired =
-      pairs-most maxEdges (answerOf j .pairs) λ p m.
+      both-most maxEdges (answerOf j .pairs) λ p m.
       let is = own .matching .pairs p m in
       (omega (arith, is .tree-below, accepted .edge-limit), omega (arith, is .spare-below, accepted .edge-limit))
 

@@ -2,19 +2,16 @@
 -- slice or past it, a byte below 128 or not. Assumes nothing.
 use Prim.Native.Nat.{ℕ, zero, suc, _+_, _*_, _-_, _^_, _<_, _≤_}
 use native.Mathlib.Nat.{lt-of-lt-of-le, pow-le-pow-right}
-use native.Mathlib.Numerals.{add-one}
 use native.Mathlib.Decide.{decLt}
 use native.Mathlib.Omega.{arith}
 use mathlib.Core.Path.{_≡_, refl, ap, _∙_}
 use mathlib.Core.List.{List}
 use lib.ListN.{length, drop, getD, drop-of-length-le}
-use lib.Seq.{drop-cons}
-use borrow.Author.Tests.{lt-ltb, le-ltb}
 use Rattle.number.specs.Number.{Bytes, extend, decode}
 use Rattle.leb128.specs.Positions.{located, readAt, Stands, located-value, located-refused}
 use Rattle.number.specs.Number.Decoded.{number}
 use Rattle.leb128.specs.declared.Number.the-variants.{Value, Refused}
-use Rattle.number.specs.Laws.{bytes-drop, decode-bound, extend-zero, extend-more}
+use Rattle.number.specs.Laws.{bytes-drop, decode-bound, extend-zero, extend-more, decode-one, decode-group}
 
 -- A number may take a byte.
 pub some-byte : (k : ℕ) → suc k ≡ 0 → ⊥
@@ -35,9 +32,9 @@ pub read-last :
     at < length s →
     getD s at 0 < 128 →
     readAt k s at ≡ Value (getD s at 0) (at + 1)
-unfolding decode located
+unfolding located
 read-last zero s at some within l = absurd (some refl)
-read-last (suc k) s at some within l = rw (drop-cons s at 0 within, lt-ltb (getD s at 0) 128 l)
+read-last (suc k) s at some within l = rw (decode-one k s at within l)
 
 -- The bytes behind the first: the number of them is one less, and the position one further.
 read-rest :
@@ -46,11 +43,10 @@ read-rest :
     at < length s →
     128 ≤ getD s at 0 →
     decode k (drop at s) ≡ extend (getD s at 0 - 128) (decode (k - 1) (drop (at + 1) s))
-unfolding decode
 read-rest zero s at some within l = absurd (some refl)
 read-rest (suc k) s at some within l =
     let less : suc k - 1 ≡ k = omega arith in
-    rw (drop-cons s at 0 within, le-ltb (getD s at 0) 128 l, less, add-one)
+    rw less (decode-group k s at within l)
 
 module _ (k : ℕ) (s : List ℕ) (at : ℕ) (some : k ≡ 0 → ⊥) (within : at < length s) (more : 128 ≤ getD s at 0) where
   pub read-refused : readAt (k - 1) s (at + 1) ≡ Refused → readAt k s at ≡ Refused

@@ -2,12 +2,13 @@
 -- same number, and no written number begins another. Each holds for every number of bytes. Assumes nothing.
 use Prim.Native.Nat.{ℕ, zero, suc, _+_, _*_, _-_, _/_, _%_, _^_, _<_, _≤_}
 use native.Mathlib.Nat.{pow-suc, one-le-pow}
+use native.Mathlib.Numerals.{add-one}
 use native.Mathlib.Decide.{decLt}
 use native.Mathlib.Omega.{arith}
 use mathlib.Core.Path.{_≡_, refl, ap}
 use mathlib.Core.List.{List, [], _∷_, _++_, append-cancel-left}
-use lib.ListN.{length, take, drop}
-use lib.Seq.{getD-drop, take-length}
+use lib.ListN.{length, getD, take, drop}
+use lib.Seq.{getD-drop, take-length, drop-cons}
 use borrow.Author.Tests.{lt-ltb, le-ltb, ne-eqb}
 use Rattle.number.specs.Number.{Bytes, encode, Decoded, extend, decode}
 use Rattle.number.specs.Number.Decoded.{number, none}
@@ -38,6 +39,16 @@ extend-zero low n = refl
 pub extend-more : (low v n : ℕ) → 0 < v → extend low (number v n) ≡ number (low + 128 * v) (suc n)
 unfolding extend
 extend-more low v n h = rw (ne-eqb v 0 (omega arith))
+
+-- One step of reading at a position: a byte below 128 is a number, one from 128 on a group in front of what follows.
+module _ (k : ℕ) (s : List ℕ) (i : ℕ) (within : i < length s) where
+  pub decode-one : getD s i 0 < 128 → decode (suc k) (drop i s) ≡ number (getD s i 0) 1
+  unfolding decode
+  decode-one l = rw (drop-cons s i 0 within, lt-ltb (getD s i 0) 128 l)
+
+  pub decode-group : 128 ≤ getD s i 0 → decode (suc k) (drop i s) ≡ extend (getD s i 0 - 128) (decode k (drop (i + 1) s))
+  unfolding decode
+  decode-group l = rw (drop-cons s i 0 within, le-ltb (getD s i 0) 128 l, add-one)
 
 -- What begins with a number of at most k bytes, v in n bytes: a byte below 128, or a byte from 128 on before a number above 0.
 data Begins : ℕ → List ℕ → ℕ → ℕ → Type 0 where
