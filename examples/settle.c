@@ -1,6 +1,7 @@
 /* Settles one job from C: a triangle of three stations, whose marked tree (links 0 and 1) is not cheapest.
  * Built and run by examples/run. */
 #include <stdio.h>
+#include <string.h>
 
 #include "ist.h"
 
@@ -54,6 +55,32 @@ int main(void) {
         printf("link %zu: cost %u becomes %u\n", link, links[link].cost, costs[link]);
     for (size_t pair = 0; pair < pair_count; pair++)
         printf("pair: tree link %u, spare link %u\n", pairs[2 * pair], pairs[2 * pair + 1]);
+
+    /* The changes for a throttle. The new costs stand side by side in the answer, from the first link's to the last one's. */
+    size_t first, first_len, last, last_len, sheet_len;
+    uint8_t sheet[IST_SHEET_MOST];
+    ist_find_cost(job, job_len, answer, answer_len, 0, &first, &first_len);
+    ist_find_cost(job, job_len, answer, answer_len, (uint32_t)count - 1, &last, &last_len);
+    refusal = ist_sheet(job, job_len, answer + first, last + last_len - first, sheet, sizeof sheet, &sheet_len);
+    if (refusal != IST_OK) {
+        printf("refused %d\n", (int)refusal);
+        return 1;
+    }
+    printf("step sheet:");
+    for (size_t i = 0; i < sheet_len; i++)
+        printf(" %02x", sheet[i]);
+    printf("\n");
+
+    /* What a throttle makes of it: the new costs again. */
+    uint8_t new_costs[IST_COSTS_MOST];
+    size_t new_len;
+    refusal = ist_apply_sheet(job, job_len, sheet, sheet_len, new_costs, sizeof new_costs, &new_len);
+    if (refusal != IST_OK) {
+        printf("refused %d\n", (int)refusal);
+        return 1;
+    }
+    printf("applied: %zu bytes of costs, %s\n", new_len,
+           memcmp(new_costs, answer + first, new_len) == 0 ? "those of the answer" : "others");
 
     /* The job again, as a host reads it that is sent the frame. */
     ist_link read[IST_LINKS_MOST];

@@ -2,7 +2,7 @@
  *
  * Every function takes any bytes and any numbers and always returns. All are reentrant: they keep no state, may be called
  * again while they run, from several threads at once, and call nothing but memcpy and memset. docs/FRAMES.md has the layout of
- * job and answer frames, with examples.
+ * job and answer frames, of costs and of step sheets, with examples.
  *
  * What the caller owes, since nothing can test it here:
  * - a pointer with its length names that many elements that may be read (and written, unless it points to const); they are
@@ -18,8 +18,9 @@
  *     ist_find_cost      8,200    ist_write_job          20,400
  *     ist_read_job      15,300    ist_read_answer        11,400
  *
- * Results. A refusal is the first "no" of the questions put to the job, by the numbers below; it writes nothing into an area or
- * an array. A judge's yes is 0, like success; its no is -1; compare with the names.
+ * Results. A refusal is the first "no" of the questions put, by the numbers below: 1 to 6 to the job, then 8 to the costs or the
+ * sheet that come with it, and 7 last. It writes nothing into an area or an array. A judge's yes is 0, like success; its no is
+ * -1; compare with the names.
  */
 #ifndef IST_H
 #define IST_H
@@ -49,12 +50,17 @@ extern "C" {
 #define IST_REFUSED_MARK 5
 /* the marked links are no spanning tree; */
 #define IST_REFUSED_TREE 6
-/* the area, or an array, is too short for what would be written. */
+/* the area, or an array, is too short for what would be written; */
 #define IST_REFUSED_AREA 7
+/* the costs or the sheet going in are not in form, or a cost leaves 0 to 2,097,151. */
+#define IST_REFUSED_SHEET 8
 
-/* The longest job frame and the longest answer frame, in bytes. */
+/* The longest job frame, the longest answer frame and the longest step sheet, in bytes. */
 #define IST_JOB_MOST 1539
 #define IST_ANSWER_MOST 1025
+#define IST_SHEET_MOST 1410
+/* The most bytes of costs in link order. */
+#define IST_COSTS_MOST 768
 /* The most links of a job, and the most pairs of an answer. */
 #define IST_LINKS_MOST 256
 #define IST_PAIRS_MOST 63
@@ -79,6 +85,21 @@ void ist_find_link(const uint8_t *job, size_t job_len, uint32_t link, size_t *of
  * judges it once. */
 void ist_find_cost(const uint8_t *job, size_t job_len, const uint8_t *answer, size_t answer_len, uint32_t link,
                    size_t *offset, size_t *length);
+
+/* Writes the step sheet of new costs into the area: which links move, and by how much. The costs are one number a link, in link
+ * order and in shortest form of one to three bytes, as an answer frame holds them behind its first number; they need not make
+ * the marked tree cheapest. 0, a refusal of the job, 1 to 6, 8 if the costs are not just that, or 7; *written is the sheet's
+ * length, or 0 if refused. IST_SHEET_MOST bytes are enough for every sheet. */
+int32_t ist_sheet(const uint8_t *job, size_t job_len, const uint8_t *costs, size_t costs_len, uint8_t *area, size_t area_len,
+                  size_t *written);
+
+/* Applies a step sheet, made here or elsewhere, to the job's costs, and writes the costs that it leads to into the area, one
+ * number a link in link order. 0, a refusal of the job, 1 to 6, 8 if the sheet is not in form or a cost would leave 0 to
+ * 2,097,151, or 7; *written is the length of the costs, or 0 if refused (of a job without links it is 0 too: look at the
+ * result). IST_COSTS_MOST bytes are enough for all costs. For the same job each of the two functions undoes the other, byte for
+ * byte. */
+int32_t ist_apply_sheet(const uint8_t *job, size_t job_len, const uint8_t *sheet, size_t sheet_len, uint8_t *area,
+                        size_t area_len, size_t *written);
 
 /* A link as a record: its two ends, its cost, its mark (1 tree, 0 spare). */
 typedef struct {

@@ -8,7 +8,7 @@ use mathlib.Core.Bool.{Bool, true, false}
 use mathlib.Core.List.{List}
 use lib.Dec.{leb, eqb}
 use lib.ListN.{length, getD, take}
-use lib.Seq.{sets, getD-take}
+use lib.Seq.{sets, length-sets, getD-take}
 use borrow.Author.Tests.{ne-eqb}
 use Rattle.number.specs.Number.{Bytes}
 use Rattle.loops.specs.TestLaws.{clash}
@@ -73,6 +73,7 @@ stored s z c nodes edges b none empty full pn pm =
       cost =
           ap placesOf (ap (λ (c : Columns). c .cost) full ∙ ap (λ (z : List ℕ). sets z 0 (costs ls)) (empty .cost)) ∙
           column-held (λ (l : JobLink). l .cost) refl 256 ls few;
+      cost-places = ap (λ (c : Columns). length (c .cost)) full ∙ length-sets (z .links .cost) 0 (costs ls) ∙ empty-places empty .cost;
       mark =
           ap placesOf (ap (λ (c : Columns). c .mark) full ∙ ap (λ (z : List ℕ). sets z 0 (marks ls)) (empty .mark)) ∙
           column-held (λ (l : JobLink). l .mark) refl 256 ls few;

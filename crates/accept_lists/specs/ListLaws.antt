@@ -47,5 +47,6 @@ module _ (nodes edges : ℕ) (c : Columns) (h : ListHeld edges c) where
         end₁ = said (λ (l : JobLink). l .end₁) refl (h .end₁);
         end₂ = said (λ (l : JobLink). l .end₂) refl (h .end₂);
         cost = said (λ (l : JobLink). l .cost) refl (h .cost);
+        cost-places = h .places .cost;
         mark = said (λ (l : JobLink). l .mark) refl (h .mark);
       }

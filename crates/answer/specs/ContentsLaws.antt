@@ -11,7 +11,8 @@ use Rattle.loops.specs.Loop.{gather}
 use Rattle.optimum.specs.Optimum.{Pair}
 use Rattle.optimum.specs.Solve.{pairAt}
 use Rattle.frame.specs.Answers.{pairFrom}
-use Rattle.codec.specs.ListLaws.{gather-within, gather-same}
+use Rattle.loops.specs.GatherLaws.{gather-same}
+use Rattle.codec.specs.ListLaws.{gather-within}
 use Rattle.codec.specs.Held.{pairsAt}
 use Rattle.answer.specs.Contents.{matePairs, PairsListed}
 

@@ -13,7 +13,7 @@ use lib.Seq.{sets, sets-eq, length-sets, length-take-le, drop-cons, take-all}
 use borrow.Author.Tests.{eq-eqb, ne-eqb, le-leb, lt-leb}
 use Rattle.loops.specs.Loop.{tabulate}
 use Rattle.loops.specs.TestLaws.{clash}
-use Rattle.loops.specs.GatherLaws.{length-tabulate, tabulate-getD}
+use Rattle.loops.specs.GatherLaws.{gather-same, length-tabulate, tabulate-getD}
 use Rattle.number.specs.Number.{Bytes, decode}
 use Rattle.leb128.specs.Positions.{readAt, located-value, located-refused}
 use Rattle.number.specs.Number.Decoded.{number}
@@ -29,7 +29,7 @@ use Rattle.frame.specs.Division.{division}
 use Rattle.codec.specs.declared.Taken.{Taken}
 use Rattle.division.specs.declared.Numbers.the-variants.{Count, Refused}
 use Rattle.codec.specs.Numbers.{takenAt, numbersAt, Loaded, loadedAt, loaded}
-use Rattle.codec.specs.ListLaws.{gather-same, load-numbers}
+use Rattle.codec.specs.ListLaws.{numbers-put, load-numbers}
 use Rattle.codec.specs.Held.{pairsAt, answerAt}
 use Rattle.division.specs.Counting.{countFrom}
 use Rattle.division.specs.CountingLaws.{counted-some, counted-none}
@@ -164,9 +164,7 @@ module _ (m : ℕ) (s : List ℕ) (h : Bytes s) (v next : ℕ) (e : readAt stepB
         same-costs : numbersAt m cs′ ≡ take m ns
         same-costs =
             let taken : length (take m ns) ≡ m = length-take-le m ns (omega (arith, size)) in
-            gather-same m (λ e. getD cs′ e 0 ∷ []) (λ e. getD (take m ns) e 0 ∷ [])
-            (λ e l. ap (λ (x : ℕ). x ∷ []) (ap (λ (xs : List ℕ). getD xs e 0) new-costs ∙ sets-at (take m ns) cs e (omega arith) (omega arith)))
-            ∙ rw taken at (tabulate-getD (take m ns) 0)
+            ap (numbersAt m) new-costs ∙ rw taken at (numbers-put (take m ns) cs (omega (arith, taken, room, edges)))
 
         pair-at : (k : ℕ) → k < 2 * c .value → getD ps′ k 0 ≡ getD rest k 0
         pair-at k l = ap (λ (xs : List ℕ). getD xs k 0) new-pairs ∙ sets-at rest ps k (omega (arith, two)) (omega (arith, two))

@@ -4,13 +4,13 @@ use Prim.Native.Nat.{ℕ, zero, suc, _+_, _-_, _*_, _<_, _≤_}
 use native.Mathlib.Decide.{decLe}
 use native.Mathlib.Numerals.{add-one}
 use native.Mathlib.Omega.{arith}
-use mathlib.Core.Path.{_≡_, refl, sym, ap, ap₂, _∙_}
+use mathlib.Core.Path.{_≡_, refl, sym, ap, _∙_}
 use mathlib.Core.List.{List, [], _∷_, _++_, flatMap, append-nil}
-use lib.ListN.{length, getD, set, take, drop, length-append}
-use lib.Seq.{sets, getD-set-same, getD-set-other}
+use lib.ListN.{length, getD, set, take, drop, length-append, List·getD-append}
+use lib.Seq.{sets, sets-eq, getD-set-same, getD-set-other}
 use Rattle.loops.specs.Loop.{scan, gather}
 use Rattle.loops.specs.ScanLaws.{scan-turn}
-use Rattle.loops.specs.GatherLaws.{length-tabulate}
+use Rattle.loops.specs.GatherLaws.{gather-same, length-tabulate, tabulate-getD}
 use Rattle.number.specs.Number.{encode}
 use Rattle.number.specs.Laws.{encode-size-most}
 use Rattle.limits.specs.Limits.{numberBytes}
@@ -35,12 +35,6 @@ gather-within g f more e (suc n) l =
       | yes k ↦ omega (arith, gather-within g f more e n k, rw add-one at (more n))
       | no k ↦ let all : e ≡ suc n = omega arith in rw all (omega arith)
     ]
-
--- Equal parts make equal lists.
-pub gather-same : {A : Type 0} (n : ℕ) (f g : ℕ → List A) → ((i : ℕ) → i < n → f i ≡ g i) → gather n f ≡ gather n g
-unfolding gather
-gather-same zero f g h = refl
-gather-same (suc n) f g h = ap₂ _++_ (gather-same n f g (λ i l. h i (omega arith))) (h n (omega arith))
 
 module _ (xs : List ℕ) where
   -- One number more.
@@ -71,6 +65,13 @@ module _ (xs : List ℕ) where
       rw (add-one n, getD-set-same xs n v 0 l)
       (ap (λ (ns : List ℕ). ns ++ (v ∷ []))
       (gather-same n (λ i. getD (set xs n v) i 0 ∷ []) (λ i. getD xs i 0 ∷ []) (λ i b. ap (λ (x : ℕ). x ∷ []) (getD-set-other xs n i v 0 (omega arith)))))
+
+-- A list put over the front of another is its first numbers.
+pub numbers-put : (xs l : List ℕ) → length xs ≤ length l → numbersAt (length xs) (sets l 0 xs) ≡ xs
+numbers-put xs l h =
+    gather-same (length xs) (λ i. getD (sets l 0 xs) i 0 ∷ []) (λ i. getD xs i 0 ∷ [])
+    (λ i k. ap (λ (x : ℕ). x ∷ []) (rw (sets-eq xs l 0 (omega arith)) (List·getD-append xs (drop (0 + length xs) l) 0 i k)))
+    ∙ tabulate-getD xs 0
 
 -- A turn of the reader.
 pub number-turn :

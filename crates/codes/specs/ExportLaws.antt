@@ -15,8 +15,8 @@ use Rattle.loops.specs.TestLaws.{truth}
 use Rattle.optimum.specs.Optimum.{Answer}
 use Rattle.frame.specs.Job.{Job, fields, jobFrame}
 use Rattle.frame.specs.Questions.{jobOf, refusal as frame-refusal}
-use Rattle.frame.specs.Services.{small, written}
-use Rattle.frame.specs.Meaning.{FirstNo, no1, no2, no3, no4, no5, no6, none}
+use Rattle.frame.specs.Services.{Outcome, Served, small, written}
+use Rattle.frame.specs.Meaning.{FirstNo, FirstNoWith, no1, no2, no3, no4, no5, no6, none}
 use Rattle.codec.specs.declared.Reply.{Reply}
 use Rattle.answering.specs.Answering.{Answered}
 use Rattle.listed.specs.ListServices.{ListWritten, ListAnswered, ListJudged}
@@ -48,12 +48,17 @@ first-most (no5 ns d c f e x) = omega arith
 first-most (no6 ns f x) = omega arith
 first-most (none ns f x) = omega arith
 
+-- And so with a question of a service's own, if its number is one that a result of C can tell.
+pub first-with-most : {s : List ℕ} {number n : ℕ} {Holds : Type 0} → FirstNoWith s number Holds n → number ≤ 31 → n ≤ 31
+first-with-most (FirstNoWith.earlier r n f) l = omega (arith, first-most f)
+first-with-most (FirstNoWith.own f x) l = l
+first-with-most (FirstNoWith.passed f x) l = omega arith
+
+pub served-most : {earlier : ℕ} {bytes area : List ℕ} {o : Outcome} → Served earlier bytes area o → earlier ≤ 31 → o .refusal ≤ 31
+served-most k l = ⊎-elim (λ q. omega (arith, q, l)) (λ q. omega (arith, q .1)) (k .number)
+
 pub answered-most : (s area : List ℕ) (r : Reply) (after : List ℕ) → Answered s area r after → r .refusal ≤ 31
-answered-most s area r after a =
-    elim (a .served .number) [
-      | inl q ↦ omega (arith, q, first-most (a .first))
-      | inr q ↦ omega (arith, q .1)
-    ]
+answered-most s area r after a = served-most (a .served) (omega (arith, first-most (a .first)))
 
 -- A number as a result of C: cut off at 31, as it is up to there, and read back from the result's bits.
 number-same : (n : ℕ) → n ≤ 31 → toZ w32 n ≡ pos n
@@ -110,7 +115,7 @@ list-answered-most j area r after k =
 pub list-written-most : (j : Job) (area : List ℕ) (r : Reply) (after : List ℕ) → ListWritten j area r after → r .refusal ≤ 31
 list-written-most j area r after k =
     ⊎-elim
-    (λ y. ⊎-elim (λ q. omega (arith, q, first-most (k .first y))) (λ q. omega (arith, q .1)) (k .served y .number))
+    (λ y. served-most (k .served y) (omega (arith, first-most (k .first y))))
     (λ n. omega (arith, k .large n .number))
     (truth (small j))
 

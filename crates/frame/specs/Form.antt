@@ -174,15 +174,15 @@ turn1 s h Option.none e = no1 (λ ns d. let z : _≡_ {A = ℕ} 0 1 = cc (divisi
 pub first-no : (s : List ℕ) → Bytes s → FirstNo s (refusal s)
 first-no s h = turn1 s h (numbers s) refl
 
--- And with a question of a service's own behind them.
+-- And with a question of a service's own behind them, which is understood of accepted jobs.
 pub later-first :
-    (s : List ℕ) (number : ℕ) (holds : Bool) (Holds : Type 0) → Bytes s → (holds ≡ true) ↔ Holds →
+    (s : List ℕ) (number : ℕ) (holds : Bool) (Holds : Type 0) → Bytes s → (refusal s ≡ 0 → (holds ≡ true) ↔ Holds) →
     FirstNoWith s number Holds (later (refusal s) holds number)
-later-first s number holds Holds h means = of (refusal s) (first-no s h)
+later-first s number holds Holds h means = of (refusal s) (first-no s h) means
   where
-    of : (r : ℕ) → FirstNo s r → FirstNoWith s number Holds (later r holds number)
-    of zero f = ⊎-elim (λ y. rw y (passed f (means .0 y))) (λ n. rw n (own f (λ k. clash (means .1 k) n))) (truth holds)
-    of (suc r) f = earlier (suc r) (λ e. omega (arith, e)) f
+    of : (r : ℕ) → FirstNo s r → (r ≡ 0 → (holds ≡ true) ↔ Holds) → FirstNoWith s number Holds (later r holds number)
+    of zero f m = ⊎-elim (λ y. rw y (passed f (m refl .0 y))) (λ n. rw n (own f (λ k. clash (m refl .1 k) n))) (truth holds)
+    of (suc r) f m = earlier (suc r) (λ e. omega (arith, e)) f
 
 -- There is one first "no" only.
 pub first-no-unique : (s : List ℕ) (r : ℕ) → Bytes s → FirstNo s r → refusal s ≡ r

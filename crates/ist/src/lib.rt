@@ -1,6 +1,7 @@
-// The library's functions for C (include/ist.h). Those on frames are handed on to the crates `ist_frames`, `ist_finders` and
-// `ist_readers`; those over a lent list of records are in list.rt.
+// The library's functions for C (include/ist.h). Those on frames are handed on to the crates `ist_frames`, `ist_sheets`, `ist_finders`
+// and `ist_readers`; those over a lent list of records are in list.rt.
 ghost use Rattle.answering.specs.Answering.{Answered};
+ghost use Rattle.stepping.specs.Stepping.{SheetMade, SheetApplied};
 ghost use Rattle.judging.specs.Verdicts.{TreeJudged, AnswerJudged};
 ghost use Rattle.finding.specs.Parts.{LinkLocated, CostLocated};
 ghost use Rattle.copying.specs.Copies.{JobCopied, AnswerCopied};
@@ -30,6 +31,29 @@ pub extern "C" fn ist_judge_answer(job: &[u8], answer: &[u8]) -> i32
     ensures { λ r. ⌜ Said (AnswerJudged (now (job .entry)) (now (answer .entry))) r ⌝ }
 {
     ist_frames::judge_answer(job, answer)
+}
+
+// Writes the sheet of the new costs of a job frame into the area.
+#[no_mangle]
+pub extern "C" fn ist_sheet(job: &[u8], costs: &[u8], area: &mut [u8], written: &mut usize) -> i32
+    ensures { λ r. ⌜ Replied (λ reply. SheetMade (now (job .entry)) (now (costs .entry)) (now (area .entry)) reply (now (area .exit))) r
+        (now (written .exit)) ⌝ }
+{
+    ist_sheets::sheet(job, costs, area, written)
+}
+
+// Writes the costs that a sheet leads to from those of a job frame into the area.
+#[no_mangle]
+pub extern "C" fn ist_apply_sheet(
+    job: &[u8],
+    sheet: &[u8],
+    area: &mut [u8],
+    written: &mut usize,
+) -> i32
+    ensures { λ r. ⌜ Replied (λ reply. SheetApplied (now (job .entry)) (now (sheet .entry)) (now (area .entry)) reply (now (area .exit))) r
+        (now (written .exit)) ⌝ }
+{
+    ist_sheets::apply_sheet(job, sheet, area, written)
 }
 
 // Where a link's four numbers stand in its job frame.

@@ -8,12 +8,15 @@ maxNodes = 64
 abbrev pub maxEdges : ℕ
 maxEdges = 256
 
--- The bytes of a number, and of the step count.
+-- The bytes of a number, of the step count, and of a number on a step sheet.
 abbrev pub numberBytes : ℕ
 numberBytes = 3
 
 abbrev pub stepBytes : ℕ
 stepBytes = 4
+
+abbrev pub changeBytes : ℕ
+changeBytes = 4
 
 -- The largest number that fits into k bytes; the largest of a job: 2,097,151.
 abbrev pub largest : ℕ → ℕ
@@ -22,12 +25,19 @@ largest k = 128 ^ k - 1
 abbrev pub maxNumber : ℕ
 maxNumber = largest numberBytes
 
--- The longest job frame and the longest answer frame, in bytes: laws of crate `frame`.
+-- The longest job frame and the longest answer frame, in bytes: laws of crate `frame`. The longest step sheet, and the longest
+-- costs in link order: laws of crate `sheet`.
 abbrev pub jobMost : ℕ
 jobMost = 1539
 
 abbrev pub answerMost : ℕ
 answerMost = 1025
+
+abbrev pub sheetMost : ℕ
+sheetMost = 1410
+
+abbrev pub costsMost : ℕ
+costsMost = 768
 
 -- The mark of a tree link.
 abbrev pub treeMark : ℕ

@@ -3,9 +3,9 @@
 use Prim.Native.Nat.{ℕ, zero, suc, _<_}
 use native.Mathlib.Decide.{ℕ-discrete, decLt}
 use native.Mathlib.Omega.{arith}
-use mathlib.Core.Path.{_≡_, refl, ap, _∙_}
+use mathlib.Core.Path.{_≡_, refl, ap, ap₂, _∙_}
 use mathlib.Core.Logic.{_⊎_, inl, inr}
-use mathlib.Core.List.{List, [], _∷_, List·Memᴰ, List·Memᴰ·not-nil, List·Memᴰ·append-cases, Memᴰ·append-left, Memᴰ·append-right}
+use mathlib.Core.List.{List, [], _∷_, _++_, List·Memᴰ, List·Memᴰ·not-nil, List·Memᴰ·append-cases, Memᴰ·append-left, Memᴰ·append-right}
 use lib.ListN.{length, getD, length-append, List·getD-append}
 use lib.Seq.{getD-at, ext-getD}
 use Rattle.loops.specs.Below.{sum}
@@ -47,6 +47,12 @@ module _ {A : Type 0} where
       λ x y m m′.
       let r = gather-from n f m in
       across (r .0) n x y (r .1) (omega arith) (r .2) m′
+
+  -- Equal parts make equal lists.
+  pub gather-same : (n : ℕ) (f g : ℕ → List A) → ((i : ℕ) → i < n → f i ≡ g i) → gather n f ≡ gather n g
+  unfolding gather
+  gather-same zero f g h = refl
+  gather-same (suc n) f g h = ap₂ _++_ (gather-same n f g (λ i l. h i (omega arith))) (h n (omega arith))
 
   pub gather-sum : (n : ℕ) (g : ℕ → List A) (f : A → ℕ) → sumOver f (gather n g) ≡ sum n (λ i. sumOver f (g i))
   unfolding gather sum sumOver

@@ -1,5 +1,5 @@
 // Runs the remaining rows: refusals, areas that are just too short, the example of 13 steps, answers made elsewhere, the
-// finders, the readers, small trees, and the longest job with the longest answer. The rows T1 to T9 are proved
+// finders, the readers, step sheets, small trees, and the longest job with the longest answer. The rows T1 to T9 are proved
 // (specs/Rows.antt).
 use ids::Edge;
 use judging::Verdict;
@@ -263,6 +263,45 @@ fn parts(t1: &[u8], other: &[u8]) {
     show_part(b"cost in no answer", finding::find_cost(t1, t1, Edge(0)));
 }
 
+// Makes the sheet of costs in an area of five bytes AA, and shows the number and the whole area.
+fn show_sheet(name: &[u8], frame: &[u8], costs: &[u8]) {
+    let mut area = [170u8; 5];
+    let reply = stepping::sheet_of_costs(frame, costs, &mut area);
+    print_reply(name, reply.refusal, reply.length);
+    io::write_all(1, b", area");
+    print_bytes(&area);
+}
+
+// Applies a sheet, likewise.
+fn show_applied(name: &[u8], frame: &[u8], sheet: &[u8]) {
+    let mut area = [170u8; 5];
+    let reply = stepping::costs_of_sheet(frame, sheet, &mut area);
+    print_reply(name, reply.refusal, reply.length);
+    io::write_all(1, b", area");
+    print_bytes(&area);
+}
+
+fn sheets(t1: &[u8]) {
+    show_sheet(b"sheet of 4 4 4", t1, b"\x04\x04\x04");
+    show_sheet(b"sheet of 5 4 2", t1, b"\x05\x04\x02");
+    show_sheet(b"sheet of 8 bytes", t1, b"\x05\x05\xff\xff\x7f");
+    show_sheet(b"sheet of two costs", t1, b"\x04\x04");
+    show_sheet(b"sheet of no link", b"\x01\x00", b"");
+    show_sheet(b"sheet for no tree", b"\x40\x00", b"\x04");
+}
+
+fn applied(t1: &[u8]) {
+    show_applied(b"down 1, up 2", t1, b"\x02\x00\x01\x02\x04");
+    show_applied(b"up 2097149", t1, b"\x01\x02\xfa\xff\xff\x01");
+    show_applied(b"up 2097150", t1, b"\x01\x02\xfc\xff\xff\x01");
+    show_applied(b"down 6", t1, b"\x01\x00\x0b");
+    show_applied(b"link 0 twice", t1, b"\x02\x00\x02\x00\x02");
+    show_applied(b"a byte more", t1, b"\x00\x00");
+    show_applied(b"no sheet", t1, b"");
+    show_applied(b"80 00", t1, b"\x80\x00");
+    show_applied(b"no link", b"\x01\x00", b"\x00");
+}
+
 fn stars() {
     show_verdict(b"one station", judging::judge(b"\x01\x00"));
     show_verdict(b"two stations, no link", judging::judge(b"\x02\x00"));
@@ -403,6 +442,8 @@ fn main() {
         b"a list of no link, records behind it",
         lists::judge_links(64, long_list(0)),
     );
+    sheets(t1);
+    applied(t1);
     trees();
     longest();
 }

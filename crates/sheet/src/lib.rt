@@ -1,0 +1,1 @@
+// Theory only: step sheets, their layout, their reader and their laws stand in specs/.

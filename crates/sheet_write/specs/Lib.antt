@@ -1,0 +1,2 @@
+-- Laws of the writer of step sheets.
+pub mod MoveSteps

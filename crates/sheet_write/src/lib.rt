@@ -1,0 +1,118 @@
+// Writes what a host is sent for a job: a step sheet, or costs in link order.
+ghost use mathlib.Core.Path.{_≡_};
+ghost use Prim.Native.Nat.{_+_, _≤_};
+ghost use lib.IntN.{pos, _-ℤ_};
+ghost use lib.ListN.{length};
+ghost use Rattle.limits.specs.Limits.{maxNumber};
+ghost use Rattle.frame.specs.Job.{bytesOf};
+ghost use Rattle.frame.specs.Services.{written};
+ghost use Rattle.codec.specs.Numbers.{numbersAt, Put, outcome};
+ghost use Rattle.sheet.specs.Sheet.{InRange, coded, movesOf, sheetFrame};
+ghost use Rattle.sheet.specs.Reading.{costsAt};
+ghost use Rattle.sheet.specs.EntryLaws.{entriesBytes};
+use codec::Reply;
+use codec::refused;
+use limits::CHANGE_BYTES;
+
+// How many links move, and how many bytes their entries take.
+struct Measured {
+    count: u32,
+    length: usize,
+}
+
+// The code of a link's change; 0 if its cost stays.
+fn change_code(old: u32, new: u32) -> u32
+    requires { ⌜ old ≤ maxNumber ⌝ }
+    requires { ⌜ new ≤ maxNumber ⌝ }
+    ensures { λ r. ⌜ r ≡ coded (pos new -ℤ pos old) ⌝ }
+{
+    if old <= new {
+        return 2 * (new - old);
+    }
+    2 * (old - new) - 1
+}
+
+// Measures the entries of the first `edges` links.
+fn measure(edges: usize, old: &[u32; 256], new: &[u32; 256]) -> Measured
+    requires { ⌜ edges ≤ 256 ⌝ }
+    requires { ⌜ InRange edges (costsAt (now old)) ⌝ }
+    requires { ⌜ InRange edges (costsAt (now new)) ⌝ }
+    ensures count { λ r. ⌜ r .count ≡ length (movesOf edges (costsAt (now (old .entry))) (costsAt (now (new .entry)))) ⌝ }
+    ensures length { λ r. ⌜ r .length ≡ length (entriesBytes (movesOf edges (costsAt (now (old .entry))) (costsAt (now (new .entry))))) ⌝ }
+{
+    let mut count: u32 = 0;
+    let mut length: usize = 0;
+    let mut e: usize = 0;
+    while e < edges {
+        let code = change_code(old[e], new[e]);
+        if code != 0 {
+            count += 1;
+            length += leb128_write::size(e as u32, CHANGE_BYTES);
+            length += leb128_write::size(code, CHANGE_BYTES);
+        }
+        e += 1;
+    }
+    Measured {
+        count: count,
+        length: length,
+    }
+}
+
+// Puts the entries of the first `edges` links at a position and gives the position behind them.
+fn put_moves(area: &mut [u8], at: usize, edges: usize, old: &[u32; 256], new: &[u32; 256]) -> usize
+    requires { ⌜ edges ≤ 256 ⌝ }
+    requires { ⌜ InRange edges (costsAt (now old)) ⌝ }
+    requires { ⌜ InRange edges (costsAt (now new)) ⌝ }
+    requires { ⌜ at + length (entriesBytes (movesOf edges (costsAt (now old)) (costsAt (now new)))) ≤ length (now area) ⌝ }
+    ensures { λ r. ⌜ Put (now (area .entry)) at (entriesBytes (movesOf edges (costsAt (now (old .entry))) (costsAt (now (new .entry))))) r
+        (now (area .exit)) ⌝ }
+{
+    let mut next = at;
+    let mut e: usize = 0;
+    while e < edges {
+        let code = change_code(old[e], new[e]);
+        if code != 0 {
+            let middle = leb128_write::write(area, next, e as u32, CHANGE_BYTES);
+            next = leb128_write::write(area, middle, code, CHANGE_BYTES);
+        }
+        e += 1;
+    }
+    next
+}
+
+// Writes the sheet of the new costs of the first `edges` links; question 7.
+pub fn write_sheet(edges: usize, old: &[u32; 256], new: &[u32; 256], area: &mut [u8]) -> Reply
+    requires { ⌜ edges ≤ 256 ⌝ }
+    requires { ⌜ InRange edges (costsAt (now old)) ⌝ }
+    requires { ⌜ InRange edges (costsAt (now new)) ⌝ }
+    ensures { λ r. ⌜ outcome r (now (area .exit))
+        ≡ written 0 (sheetFrame (movesOf edges (costsAt (now (old .entry))) (costsAt (now (new .entry))))) 0 (now (area .entry)) ⌝ }
+{
+    let measured = measure(edges, old, new);
+    let front = leb128_write::size(measured.count, CHANGE_BYTES);
+    if area.len() < front + measured.length {
+        return refused(7);
+    }
+    let behind = leb128_write::write(area, 0, measured.count, CHANGE_BYTES);
+    let end = put_moves(area, behind, edges, old, new);
+    Reply {
+        refusal: 0,
+        length: end,
+    }
+}
+
+// Writes the costs of the first `edges` links; question 7.
+pub fn write_costs(edges: usize, costs: &[u32; 256], area: &mut [u8]) -> Reply
+    requires { ⌜ edges ≤ 256 ⌝ }
+    ensures { λ r. ⌜ outcome r (now (area .exit)) ≡ written 0 (bytesOf (numbersAt edges (now (costs .entry)))) 0 (now (area .entry)) ⌝ }
+{
+    let total = codec::numbers_size(costs, edges);
+    if area.len() < total {
+        return refused(7);
+    }
+    let end = codec::write_numbers(area, 0, costs, edges);
+    Reply {
+        refusal: 0,
+        length: end,
+    }
+}
