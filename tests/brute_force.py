@@ -3,11 +3,14 @@
 It reads and judges frames by the document's words and finds answers by trying everything: all spanning trees, all choices
 of whole-number costs by rising steps (0 steps, 1 step, ..: no window, so negative costs are among them), all pairings.
 It knows no path test for "cheapest" and no search for pairings, so it shares no idea with the model that it is held against.
+A step sheet is divided into all its numbers first, and then asked as a whole; the model takes entry by entry.
 
 Run: python3 tests/brute_force.py [COUNT]    solves COUNT small random jobs (default 100) and a larger one for every four,
 with the assertions below, and prints figures.
 Asserted of every solved job: one best choice is lowest at every link and stays between the smallest and the largest old
 cost; the greatest weight of a pairing equals the steps; the lowest costs follow from each best pairing as the document says.
+Step sheets and new costs that are in form give each other byte for byte; the absolute changes of the sheet of a best choice
+add up to the steps. Of all short strings of small bytes, those that are the sheet of some costs are read, and no others.
 """
 import random
 import sys
@@ -20,9 +23,9 @@ Answer = namedtuple("Answer", "steps costs pairs")
 # All best choices of costs, the lowest of them, and all best pairings that an answer may list.
 Solution = namedtuple("Solution", "steps best lowest pairings")
 
-# How many bytes a number may take, and how many the first of an answer; the largest number.
-NUMBER_BYTES, STEP_BYTES = 3, 4
-NUMBER_MOST = 128 ** NUMBER_BYTES - 1
+# How many bytes a number may take, how many the first of an answer, and how many one of a step sheet; the largest numbers.
+NUMBER_BYTES, STEP_BYTES, SHEET_BYTES = 3, 4, 4
+NUMBER_MOST, SHEET_MOST = 128 ** NUMBER_BYTES - 1, 128 ** SHEET_BYTES - 1
 
 
 # Numbers: groups of seven bits, lowest group first, the top bit 1 in every byte but the last, shortest form only.
@@ -54,9 +57,9 @@ def number_of(piece, most):
 
 # Job frames and the questions put to them.
 
-def numbers_of(frame):
-    """The numbers into which the frame divides; None if it does not."""
-    values = [number_of(piece, NUMBER_BYTES) for piece in pieces(frame)]
+def numbers_of(frame, most=NUMBER_BYTES):
+    """The numbers of at most so many bytes into which the frame divides; None if it does not."""
+    values = [number_of(piece, most) for piece in pieces(frame)]
     return None if None in values else values
 
 
@@ -306,7 +309,64 @@ def cost_part(frame, answer, e):
     return pieces(answer)[1 + e]
 
 
-# Random jobs, damaged frames and answers made elsewhere.
+# Step sheets and new costs: each is made of the other, given the job.
+
+def code_of(change):
+    return 2 * change if change > 0 else -2 * change - 1
+
+
+def change_of(code):
+    return -(code + 1) // 2 if code % 2 else code // 2
+
+
+def sheet_frame(entries):
+    """The count, and each link with the code of its change."""
+    return write_numbers([len(entries), *(value for entry in entries for value in entry)])
+
+
+def in_range(costs):
+    return all(0 <= cost <= NUMBER_MOST for cost in costs)
+
+
+def entries_of(job, costs):
+    """The links whose new cost differs from the job's, each with the code of its change."""
+    return [(e, code_of(new - old)) for e, (new, old) in enumerate(zip(costs, old_costs(job))) if new != old]
+
+
+def sheet_of(job, frame):
+    """The sheet of the new costs; None if they are not in form."""
+    costs = numbers_of(frame)
+    if costs is None or len(costs) != len(job.links):
+        return None
+    return sheet_frame(entries_of(job, costs))
+
+
+def read_sheet(job, frame):
+    """The change of every link that the sheet names; None if it is not in form."""
+    values = numbers_of(frame, SHEET_BYTES)
+    if not values or len(values) != 1 + 2 * values[0]:
+        return None
+    links, codes = values[1::2], values[2::2]
+    if links != sorted(set(links)) or not set(links) <= set(range(len(job.links))) or 0 in codes:
+        return None
+    return {e: change_of(code) for e, code in zip(links, codes)}
+
+
+def costs_of(job, frame):
+    """The costs to which the sheet leads; None if it is not in form or one of them leaves the range."""
+    changes = read_sheet(job, frame)
+    if changes is None:
+        return None
+    costs = [old + changes.get(e, 0) for e, old in enumerate(old_costs(job))]
+    return write_numbers(costs) if in_range(costs) else None
+
+
+def step_refusal(frame, make, given):
+    """The number of the first "no" for `sheet_of` or `costs_of`: questions 1 to 6, then 8; 0 if there is none."""
+    return refusal(frame) or (8 if make(job_of(frame), given) is None else 0)
+
+
+# Random jobs, damaged frames, and answers, costs and sheets made elsewhere.
 
 def random_tree(rng, stations):
     """The ends of the links of a random tree: each station but the first is joined to an earlier one."""
@@ -410,7 +470,7 @@ def made_elsewhere(rng, job, solution):
 def best_answers(rng, job, solution, pairs):
     """Some best choices, where they can be written: these are right. And costs of as many steps that are not best."""
     every = list(choices(old_costs(job), solution.steps)) if solution.steps <= 4 else solution.best
-    writable = [costs for costs in every if all(0 <= cost <= NUMBER_MOST for cost in costs)]
+    writable = [costs for costs in every if in_range(costs)]
     best = [costs for costs in writable if costs in solution.best]
     others = [costs for costs in writable if costs not in solution.best]
     made = [("best costs", costs) for costs in rng.sample(best, min(2, len(best)))]
@@ -422,12 +482,16 @@ def other_costs(rng, job, right):
     """Steps and costs that do not belong together, or are not the fewest."""
     old = old_costs(job)
     level = [max(old) for _ in old]
-    near = [max(0, min(NUMBER_MOST, cost + rng.randint(-1, 1))) for cost in old]
+    near = near_costs(rng, job)
     yield "steps one too many", right._replace(steps=right.steps + 1)
     yield "old costs, no pairs", Answer(0, old, ())
     yield "all costs the largest", right._replace(steps=steps_of(job, level), costs=level)
     yield "all costs the largest, fewest steps", right._replace(costs=level)
     yield "random costs", right._replace(steps=steps_of(job, near), costs=near)
+
+
+def near_costs(rng, job):
+    return [max(0, min(NUMBER_MOST, cost + rng.randint(-1, 1))) for cost in old_costs(job)]
 
 
 def other_pairs(rng, job, right):
@@ -464,6 +528,100 @@ def damaged_answers(rng, right):
     return made + [(damaged(rng, frame), "damaged") for _ in range(3)]
 
 
+def far_costs(rng, job):
+    """New costs: old ones, ones where a number gets another byte, and the ends of the range."""
+    ends = [0, 1, 127, 128, 16383, 16384, NUMBER_MOST - 1, NUMBER_MOST]
+    return [rng.choice([cost, *ends]) for cost in old_costs(job)]
+
+
+def costs_elsewhere(rng, job, solution):
+    """New costs for the job, in form and not: the bytes and what they are, each once."""
+    far = far_costs(rng, job)
+    best = [costs for costs in solution.best if in_range(costs)]
+    made = [("the lowest best", solution.lowest), ("best", rng.choice(best)), ("the old", old_costs(job)), ("far", far)]
+    made += [("one too few", far[1:]), ("one too many", [*far, 0]), ("four bytes", [NUMBER_MOST + 1, *far[1:]])]
+    frame = write_numbers(far)
+    wrong = [(frame[:-1], "the last byte missing"), (b"\x80\0" + write_numbers(far[1:]), "not shortest")]
+    wrong += [(damaged(rng, frame), "damaged")] if far else []
+    return dict(wrong + [(write_numbers(costs), about) for about, costs in made[::-1]])
+
+
+def sheets_elsewhere(rng, job, solution):
+    """Step sheets to the job, in form and some that may not be: the bytes and what they are, each once."""
+    new = {"near costs": near_costs(rng, job), "far costs": far_costs(rng, job), "the lowest best": solution.lowest}
+    right = {sheet_frame(entries_of(job, costs)): f"to {about}" for about, costs in new.items()}
+    entries = entries_of(job, new["far costs"])
+    made = [*wrong_entries(job, entries), *end_entries(rng, job), ("no moves", [])]
+    wrong = [(sheet_frame(some), about) for about, some in made] + damaged_sheets(rng, sheet_frame(entries))
+    return {**dict(rng.sample(wrong, 8)), **right}
+
+
+def wrong_entries(job, entries):
+    """Entries that do not rise, name a link that is not in the job, or hold the code 0."""
+    yield "not rising", entries[::-1]
+    yield "the first link twice", entries[:1] + entries
+    yield "the last link twice", entries + entries[-1:]
+    yield "the last code 0", entries[:-1] + [(e, 0) for e, _ in entries[-1:]]
+    yield "the last link 65536 too high", entries[:-1] + [(e + 65536, code) for e, code in entries[-1:]]
+    yield from [(f"link {e}", [*entries, (e, 2)]) for e in (len(job.links), SHEET_MOST)]
+
+
+def end_entries(rng, job):
+    """One link moved to the ends of the range and a step past them, and by changes at the ends of what can be written."""
+    for e in rng.sample(range(len(job.links)), min(1, len(job.links))):
+        old = job.links[e].cost
+        changes = [-old, -old - 1, NUMBER_MOST - old, NUMBER_MOST - old + 1]
+        codes = [code_of(change) for change in changes if change]
+        codes += [*range(2 * NUMBER_MOST - 1, 2 * NUMBER_MOST + 3), SHEET_MOST - 1, SHEET_MOST]
+        yield from [(f"code {code} of cost {old}", [(e, code)]) for code in codes]
+
+
+def damaged_sheets(rng, sheet):
+    """Sheets whose count or layout is wrong, or may be."""
+    parts = pieces(sheet)
+    count, entries = number_of(parts[0], SHEET_BYTES), b"".join(parts[1:])
+    made = [(write_number(wrong) + entries, "wrong count") for wrong in (count + 1, abs(count - 1), 128 ** 3, SHEET_MOST)]
+    made += [(not_shortest(parts, place), "not shortest") for place in (0, rng.randrange(len(parts)), len(parts) - 1)]
+    made += [(b"".join(parts[:-1]) + write_number(SHEET_MOST + 1), "five bytes")]
+    made += [(b"", "nothing"), (b"\x80\0", "80 00"), (sheet[:-1], "the last byte missing"), (sheet + b"\0", "a byte behind")]
+    return made + [(damaged(rng, sheet), "damaged") for _ in range(3)]
+
+
+def not_shortest(parts, place):
+    """The frame of these pieces with one of them a byte longer."""
+    longer = bytes([*parts[place][:-1], parts[place][-1] | 128, 0])
+    return b"".join([*parts[:place], longer, *parts[place + 1:]])
+
+
+def small_sheets(links):
+    """Every sheet of up to three entries of small numbers: a link or the number past the last, and a code of 0 to 2."""
+    entries = list(product(range(links + 1), range(3)))
+    return [sheet_frame(some) for size in range(4) for some in product(entries, repeat=size)]
+
+
+# What is asserted of step sheets.
+
+def hold_sheets(rng, job, solution):
+    """Sheets and costs give each other; the absolute changes of the sheet of a best choice add up to the steps."""
+    best = [write_numbers(costs) for costs in solution.best if in_range(costs)]
+    for costs in best + [write_numbers(far_costs(rng, job)) for _ in range(5)]:
+        assert costs_of(job, sheet_of(job, costs)) == costs, "the sheet does not give the costs"
+    for sheet in sheets_elsewhere(rng, job, solution):
+        costs = costs_of(job, sheet)
+        assert costs is None or sheet_of(job, costs) == sheet, "the costs do not give the sheet"
+    for costs in best:
+        changes = read_sheet(job, sheet_of(job, costs)).values()
+        assert sum(abs(change) for change in changes) == solution.steps, "the changes do not add up to the steps"
+
+
+def hold_every_string():
+    """Of all strings of up to five bytes 0 to 4, those are read that are the sheet of some costs. None leads past cost 3."""
+    job = Job(2, [Link(0, 1, 1, 1), Link(0, 1, 1, 0)])
+    sheets = {sheet_of(job, bytes(costs)): bytes(costs) for costs in product(range(4), repeat=2)}
+    strings = [bytes(some) for size in range(6) for some in product(range(5), repeat=size)]
+    assert all(costs_of(job, string) == sheets.get(string) for string in strings), "a string is not read as its costs"
+
+
 def main():
     wanted = int(sys.argv[1]) if len(sys.argv) > 1 else 100
     rng = random.Random(1)
@@ -473,6 +631,8 @@ def main():
         assert job_of(job_frame(job)) == job and refusal(job_frame(job)) == 0
         assert judge_tree(job) == (solution.steps == 0)
         assert all(judge_answer(job, frame) for frame in right_answers(solution))
+        hold_sheets(rng, job, solution)
+    hold_every_string()
     print(len(jobs), "jobs solved; steps and how often:", dict(sorted(Counter(s.steps for s in solutions).items())))
 
 

@@ -1,7 +1,7 @@
 """Runs the antt model (crates/*/specs) on jobs and holds every result to the brute-force reference.
 
 Run: python3 tests/model.py [COUNT]    COUNT random jobs (default 80), 3 refused frames for every 4 of them, and the rows
-of document 01. About a minute. `rt` must be on the PATH. Nothing in this repository is changed.
+of document 01. Some 80 seconds. `rt` must be on the PATH. Nothing in this repository is changed.
 
 It copies crates/ and crates.txt into a temporary directory and adds a crate `probe`. Its specs state, a fact a result and
 each by `refl`, that the model computes what the reference found; `rt dev probe` checks them. Then one fact is stated
@@ -22,16 +22,17 @@ import brute_force as reference
 from brute_force import NUMBER_MOST, Answer, Job, Link, Solution
 
 ROOT = Path(__file__).resolve().parent.parent
-STANDS_ON = "frame optimum graph number loops limits"
+STANDS_ON = "sheet frame optimum graph number loops limits"
 FACTS_A_FILE = 400
 
 # The modules that hold the model: what is `unfoldable` in them is unfolded in every fact.
 MODEL = {
-    "loops": ["Below", "Loop"],
+    "loops": ["Below", "Loop", "SumLaws"],
     "number": ["Number"],
     "graph": ["Rank", "Paths"],
     "optimum": ["Search", "Lowest", "Solve"],
     "frame": ["Meaning", "Services", "Questions", "Answers"],
+    "sheet": ["Sheet", "Reading"],
 }
 LIBRARY = ["mathlib.Core.List.flatMap", "mathlib.Core.Bool.xor"]
 
@@ -40,16 +41,18 @@ use Prim.Native.Nat.{ℕ}
 use mathlib.Core.Path.{_≡_, refl}
 use mathlib.Core.Bool.{Bool, true, false, _&&_, _||_}
 use mathlib.Core.List.{List, [], _∷_}
-use mathlib.Core.Option.{Option·getD}
+use mathlib.Core.Option.{Option, Option·getD}
 use lib.Dec.{eqb}
 use lib.ListN.{length}
 use Rattle.optimum.specs.Optimum.{Answer}
-use Rattle.frame.specs.Job.{JobLink, Job, jobFrame}
-use Rattle.frame.specs.Questions.{refusal, jobOf, listRefusal}
+use Rattle.frame.specs.Job.{JobLink, Job, jobFrame, costOf}
+use Rattle.frame.specs.Questions.{refusal, jobOf, listRefusal, later}
 use Rattle.frame.specs.AnswerMeaning.{answerFrame}
 use Rattle.frame.specs.Answers.{answerOf, judgeTree, judgeAnswer, readAnswer}
-use Rattle.frame.specs.Services.{Outcome}
+use Rattle.frame.specs.Services.{Outcome, written}
 use Rattle.frame.specs.Replies.{answered, linkPart, costPart, noAnswer}
+use Rattle.sheet.specs.Sheet.{movesOf, moveSum}
+use Rattle.sheet.specs.Reading.{isSome, costsAt, sheetBytes, costsBytes}
 
 abbrev same : List ℕ → List ℕ → Bool
 same [] [] = true
@@ -60,6 +63,16 @@ same (x ∷ xs) (y ∷ ys) = eqb x y && same xs ys
 abbrev among : List (List ℕ) → List ℕ → Bool
 among [] xs = false
 among (ys ∷ yss) xs = same ys xs || among yss xs
+
+-- What a service on step sheets leaves in an area, as crate `stepping` states it: questions 1 to 6, then 8, then 7.
+abbrev stepped : (ℕ → (ℕ → ℕ) → List ℕ → Option (List ℕ)) → List ℕ → List ℕ → List ℕ → Outcome
+stepped make s f area =
+    let made : Option (List ℕ) = make (length (jobOf s .links)) (costOf (jobOf s)) f in
+    written (later (refusal s) (isSome made) 8) (Option·getD made []) 0 area
+
+-- The absolute changes of the sheet of the own answer, added up.
+abbrev ownChanges : Job → ℕ
+ownChanges j = moveSum (movesOf (length (j .links)) (costOf j) (costsAt (answerOf j .costs)))
 """
 
 # The rows T1 to T9, those that document 01 wants run, and some at the edge of a question: a job, and its answers or its
@@ -131,6 +144,12 @@ LENT = [
     Job(2, 256 * [Link(0, 0, 5, 2)]), Job(2, 257 * [Link(0, 0, 5, 2)]),
 ]
 
+# Jobs of no link, one and two, with costs at the ends of the range.
+TINY = [Job(1, []), Job(2, [Link(0, 1, 0, 1)]), Job(2, [Link(0, 1, 0, 1), Link(0, 1, NUMBER_MOST, 0)])]
+
+# The services on step sheets: what makes the sheet or the costs in the reference, and in the model.
+STEPPED = {reference.sheet_of: "sheetBytes", reference.costs_of: "costsBytes"}
+
 # A fact: its name, its job's bytes, what it is about, the model's term and the reference's value.
 Fact = namedtuple("Fact", "name frame about term value")
 
@@ -151,6 +170,13 @@ def word(judged):
 
 def outcome_text(refused, length, area):
     return f"record {{ refusal = {refused}; size = {length}; area = {list_text(area)} }}"
+
+
+def served_text(number, made, area):
+    """What a service leaves in an area: the number of the questions before, then question 7; the bytes past its own."""
+    if number or len(area) < len(made):
+        return outcome_text(number or 7, 0, area)
+    return outcome_text(0, len(made), [*made, *area[len(made):]])
 
 
 def job_text(job):
@@ -174,10 +200,12 @@ class Probe:
 
     def __init__(self, seed):
         self.rng = random.Random(seed)
+        self.step_rng = random.Random(seed)
         self.facts = []
         self.refusals = Counter()
         self.steps = Counter()
         self.judged = Counter()
+        self.translated = {make: Counter() for make in STEPPED}
 
     def state(self, frame, about, term, value):
         self.facts.append(Fact(f"fact-{len(self.facts)}", frame, about, term, value))
@@ -200,13 +228,17 @@ class Probe:
         return number
 
     def refused(self, frame, number):
-        """Nothing is written and every part is empty, also for an answer with the costs of the refused job."""
+        """Nothing is written, every part is empty, also for an answer with the costs of the refused job; 8 comes later."""
         s = bytes_text(frame)
         area = [9, 8, 7]
         answer = T1_ANSWER if number < 4 else reference.unchanged(reference.job_of(frame))
         self.state(frame, "outcome", f"answered {s} {bytes_text(area)}", outcome_text(number, 0, area))
         self.state(frame, "part of link 0", f"linkPart (refusal {s}) {s} 0", "[]")
         self.state(frame, f"part of cost 0 in {answer.hex(' ')}", f"costPart {s} {bytes_text(answer)} 0", "[]")
+        costs = b"" if number < 4 else reference.write_numbers(reference.old_costs(reference.job_of(frame)))
+        for make, given in ((reference.sheet_of, costs), (reference.costs_of, b"\0")):
+            self.stepped(frame, make, given, "in form")
+            self.stepped(frame, make, b"\x80\0", "not in form")
 
     def accepted(self, frame):
         s = bytes_text(frame)
@@ -217,6 +249,7 @@ class Probe:
         self.link_parts(frame, job)
         self.own_answer(frame, solution)
         self.answers(frame, job, reference.made_elsewhere(self.rng, job, solution))
+        self.sheets(frame, job, solution)
 
     def link_parts(self, frame, job):
         s = bytes_text(frame)
@@ -230,22 +263,22 @@ class Probe:
         self.state(frame, "answer frame", f"among ({right}) (answerFrame (answerOf (jobOf {bytes_text(frame)})))", "true")
 
     def own_answer(self, frame, solution):
-        """The same, its steps, its costs and the judge's word about it; if no other may be written, the outcomes too."""
+        """The same, its steps, costs, changes and the judge's word about it; if no other may be written, the outcomes too."""
         s = bytes_text(frame)
         right = reference.right_answers(solution)
         self.own_frame(frame, solution)
         self.state(frame, "steps", f"answerOf (jobOf {s}) .steps", solution.steps)
         self.state(frame, "costs", f"answerOf (jobOf {s}) .costs", list_text(solution.lowest))
+        self.state(frame, "changes of the own sheet", f"ownChanges (jobOf {s})", solution.steps)
         self.state(frame, "judge of the own answer", f"judgeAnswer (jobOf {s}) (answerFrame (answerOf (jobOf {s})))", "true")
         if len(right) == 1:
             for length in (len(right[0]) - 1, len(right[0]), len(right[0]) + 2):
                 self.outcome(frame, right[0], [self.rng.randrange(256) for _ in range(length)])
 
     def outcome(self, frame, answer, area):
-        """What the answer service leaves in an area: question 7, and the bytes past the answer."""
-        size = len(answer)
-        left = outcome_text(0, size, [*answer, *area[size:]]) if len(area) >= size else outcome_text(7, 0, area)
-        self.state(frame, f"outcome in {len(area)} bytes", f"answered {bytes_text(frame)} {bytes_text(area)}", left)
+        """What the answer service leaves in an area."""
+        term = f"answered {bytes_text(frame)} {bytes_text(area)}"
+        self.state(frame, f"outcome in {len(area)} bytes", term, served_text(0, answer, area))
 
     def answers(self, frame, job, made):
         """The judge's word about answers, and the cost parts of some."""
@@ -268,6 +301,25 @@ class Probe:
             part = reference.cost_part(frame, answer, e)
             term = f"costPart {bytes_text(frame)} {bytes_text(answer)} {e}"
             self.state(frame, f"part of cost {e} in {answer.hex(' ')}", term, list_text(part))
+
+    def sheets(self, frame, job, solution):
+        """What both services on step sheets make of costs and of sheets, in form and not."""
+        for costs, about in reference.costs_elsewhere(self.step_rng, job, solution).items():
+            self.stepped(frame, reference.sheet_of, costs, about)
+        for sheet, about in reference.sheets_elsewhere(self.step_rng, job, solution).items():
+            self.stepped(frame, reference.costs_of, sheet, about)
+
+    def stepped(self, frame, make, given, about):
+        """What the service leaves in an area of up to two bytes more than it writes; of the best costs, a byte less too."""
+        number = reference.step_refusal(frame, make, given)
+        made = b"" if number else make(reference.job_of(frame), given)
+        self.translated[make][number] += 1
+        shorter = [len(made) - 1] if made and "lowest best" in about else []
+        for length in [*shorter, len(made) + self.step_rng.randrange(3)]:
+            area = [self.step_rng.randrange(256) for _ in range(length)]
+            term = f"stepped {STEPPED[make]} {bytes_text(frame)} {bytes_text(given)} {bytes_text(area)}"
+            told = f"{make.__name__} {given.hex(' ')} ({about}) in {length} bytes"
+            self.state(frame, told, term, served_text(number, made, area))
 
     def lent(self, job):
         number = reference.list_refusal(job)
@@ -305,10 +357,28 @@ def limit_jobs(probe):
         assert probe.refusal(frame) == 0
         probe.own_frame(frame, reference.solve(job))
     assert len(reference.job_frame(LONGEST)) == 1539 and probe.refusal(reference.job_frame(LONGEST)) == 0
+    longest_sheet(probe)
     for cost in FAR_COSTS:
         far_job(probe, cost)
     for job in LENT:
         probe.lent(job)
+
+
+def longest_sheet(probe):
+    """All 256 links moved, each by a change of four bytes: a sheet of 1,410 bytes."""
+    frame = reference.job_frame(LONGEST)
+    costs = reference.write_numbers([0 if link.mark else NUMBER_MOST for link in LONGEST.links])
+    sheet = reference.sheet_of(LONGEST, costs)
+    assert len(sheet) == 1410
+    probe.stepped(frame, reference.sheet_of, costs, "to the longest sheet")
+    probe.stepped(frame, reference.costs_of, sheet, "the longest")
+
+
+def small_sheets(probe):
+    """Every small sheet to jobs of no link, one and two."""
+    for job in TINY:
+        for sheet in reference.small_sheets(len(job.links)):
+            probe.stepped(reference.job_frame(job), reference.costs_of, sheet, "small")
 
 
 def far_job(probe, cost):
@@ -320,6 +390,7 @@ def far_job(probe, cost):
     assert probe.refusal(frame) == 0 and reference.judge_answer(job, right)
     probe.own_answer(frame, solution)
     probe.answers(frame, job, {right: "right", **far_answers(solution, right)})
+    probe.sheets(frame, job, solution)
 
 
 def far_answers(solution, right):
@@ -405,7 +476,14 @@ def show_figures(probe):
     print(f"refused frames: {sum(refused.values())}, by number {refused}")
     print(f"lent lists: {len(LENT)}")
     print(f"answers judged: {sum(probe.judged.values())}, yes {probe.judged[True]}, no {probe.judged[False]}")
+    show_translated(probe.translated[reference.sheet_of], "new costs", "made into sheets")
+    show_translated(probe.translated[reference.costs_of], "step sheets", "applied")
     print(f"facts compared: {len(probe.facts)}", flush=True)
+
+
+def show_translated(numbers, what, done):
+    refused = {number: times for number, times in sorted(numbers.items()) if number}
+    print(f"{what}: {sum(numbers.values())}, {done} {numbers[0]}, refused by number {refused}")
 
 
 def show_failures(output, facts):
@@ -421,6 +499,7 @@ def main():
     probe = Probe(2)
     document_rows(probe)
     limit_jobs(probe)
+    small_sheets(probe)
     chosen_frames(probe, int(sys.argv[1]) if len(sys.argv) > 1 else 80)
     show_figures(probe)
     with tempfile.TemporaryDirectory() as folder:

@@ -1,4 +1,4 @@
-/* Job and answer frames in and out, and the questions 1 to 5 put to a job. */
+/* Numbers, job frames and answer frames in and out, and the questions 1 to 5 put to a job. */
 #include <string.h>
 
 #include "reference.h"
@@ -12,7 +12,7 @@ static void keep(struct numbers *numbers, uint32_t value, size_t end)
     numbers->count++;
 }
 
-void divide(const uint8_t *frame, size_t length, size_t first_most, struct numbers *numbers)
+static void divide_by(const uint8_t *frame, size_t length, size_t first_most, size_t other_most, struct numbers *numbers)
 {
     uint32_t value = 0;
     size_t groups = 0;
@@ -21,7 +21,7 @@ void divide(const uint8_t *frame, size_t length, size_t first_most, struct numbe
     numbers->count = 0;
     numbers->start[0] = 0;
     for (size_t i = 0; i < length; i++) {
-        size_t most = numbers->count == 0 ? first_most : NUMBER_BYTES;
+        size_t most = numbers->count == 0 ? first_most : other_most;
         value |= (uint32_t)(frame[i] & 127) << (7 * groups);
         groups++;
         if (frame[i] >= 128) {
@@ -36,6 +36,16 @@ void divide(const uint8_t *frame, size_t length, size_t first_most, struct numbe
         }
     }
     numbers->whole = groups == 0;
+}
+
+void divide(const uint8_t *frame, size_t length, size_t first_most, struct numbers *numbers)
+{
+    divide_by(frame, length, first_most, NUMBER_BYTES, numbers);
+}
+
+void divide_sheet(const uint8_t *sheet, size_t length, struct numbers *numbers)
+{
+    divide_by(sheet, length, CODE_BYTES, CODE_BYTES, numbers);
 }
 
 size_t put_number(uint8_t *to, uint32_t value)

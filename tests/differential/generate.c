@@ -21,13 +21,10 @@ uint32_t pick(uint32_t below)
     return (uint32_t)((z >> 32) * below >> 32);
 }
 
-static uint32_t pick_of(const uint32_t *value, size_t count)
+uint32_t pick_of(const uint32_t *value, size_t count)
 {
     return value[pick((uint32_t)count)];
 }
-
-#define PICK_OF(...) \
-    pick_of((const uint32_t[]){__VA_ARGS__}, sizeof((const uint32_t[]){__VA_ARGS__}) / sizeof(uint32_t))
 
 /* Jobs. Nodes are placed one after another and named at the end. */
 
@@ -286,8 +283,7 @@ static size_t damage_byte(const uint8_t *frame, size_t length, uint8_t *to)
     }
 }
 
-/* The number with groups of zeros behind it. */
-static size_t put_longer(uint8_t *to, uint32_t value, uint32_t groups)
+size_t put_longer(uint8_t *to, uint32_t value, uint32_t groups)
 {
     size_t length = put_number(to, value);
 

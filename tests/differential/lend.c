@@ -103,7 +103,7 @@ void differ(const char *format, ...)
     printf("\n");
     va_end(arguments);
     print_hex("frame", lent.job, lent.job_length);
-    print_hex("answer lent last", lent.answer, lent.answer_length);
+    print_hex("answer, costs or sheet lent last", lent.answer, lent.answer_length);
     fflush(stdout);
     _Exit(1);
 }
@@ -174,8 +174,10 @@ void check_areas(const struct writer *writer, int32_t refusal, const uint8_t *by
     }
     for (size_t area_length = 0; area_length < tried; area_length++)
         check_area(writer, area_length, area_length % 2, 0, bytes, length);
-    check_area(writer, pick((uint32_t)length), pick(2), 0, bytes, length);
-    check_painted_twice(writer, length - 1, 0, bytes, length);
+    if (length > 0) {
+        check_area(writer, pick((uint32_t)length), pick(2), 0, bytes, length);
+        check_painted_twice(writer, length - 1, 0, bytes, length);
+    }
     check_painted_twice(writer, length, 0, bytes, length);
     check_painted_twice(writer, length + 1, 0, bytes, length);
     check_area(writer, length + 1 + pick((uint32_t)(AREA_ROOM - length)), pick(2), 0, bytes, length);

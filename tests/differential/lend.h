@@ -13,6 +13,7 @@ enum { LINKS_ROOM = (1 << 21) + 1, JOB_ROOM = 5 * LINKS_ROOM, AREA_ROOM = 2048 }
 struct lent {
     const uint8_t *job;
     size_t job_length;
+    /* An answer frame, costs or a step sheet. */
     const uint8_t *answer;
     size_t answer_length;
     uint32_t stations;
@@ -35,7 +36,7 @@ void lend_answer(const uint8_t *frame, size_t length);
 /* Room for so many links, to be filled in. */
 ist_link *lend_links(uint32_t stations, size_t count);
 
-/* Ends the run with the text, the job frame and the answer frame lent. */
+/* Ends the run with the text, the job frame and what is lent beside it. */
 _Noreturn void differ(const char *format, ...) __attribute__((format(printf, 1, 2)));
 void expect(const char *what, int64_t got, int64_t wanted);
 

@@ -9,7 +9,9 @@
 #include "check.h"
 #include "generate.h"
 #include "lend.h"
+#include "movers.h"
 #include "rows.h"
+#include "sheets.h"
 
 #define COUNT_OF(array) (sizeof(array) / sizeof(array)[0])
 
@@ -18,14 +20,32 @@ enum { LONG_LIST = 1 << 20 };
 static uint8_t frame[JOB_ROOM];
 static struct job job;
 
-/* Prints how many frames were checked since the last call. */
+static size_t frames_reported, moves_reported;
+
+/* How many costs and sheets were tried. */
+static size_t moves_tried(void)
+{
+    return counts.sheets_made + counts.costs_refused + counts.sheets_applied + counts.sheets_refused + counts.moves_refused;
+}
+
+static void print_kind(size_t count, const char *kind)
+{
+    printf("%9zu %s\n", count, kind);
+    fflush(stdout);
+    frames_reported = counts.frames;
+    moves_reported = moves_tried();
+}
+
+/* Prints how many frames were checked since the last report. */
 static void report(const char *kind)
 {
-    static size_t reported;
+    print_kind(counts.frames - frames_reported, kind);
+}
 
-    printf("%9zu %s\n", counts.frames - reported, kind);
-    fflush(stdout);
-    reported = counts.frames;
+/* The same of costs and sheets. */
+static void report_moves(const char *kind)
+{
+    print_kind(moves_tried() - moves_reported, kind);
 }
 
 /* Fixed frames. */
@@ -60,31 +80,43 @@ static void check_link_counts(void)
     report("jobs of 127 to 300 parallel links");
 }
 
-static void check_short_frames(void)
+typedef void bytes_visit(const uint8_t *bytes, size_t length);
+
+/* All of 0 to 2 bytes. */
+static void each_short(bytes_visit *visit)
 {
-    check_frame(frame, 0);
-    for (uint32_t bytes = 0; bytes < 65536; bytes++) {
-        frame[0] = (uint8_t)bytes;
-        frame[1] = (uint8_t)(bytes >> 8);
-        if (bytes < 256)
-            check_frame(frame, 1);
-        check_frame(frame, 2);
+    uint8_t bytes[2] = {0, 0};
+
+    visit(bytes, 0);
+    for (uint32_t both = 0; both < 65536; both++) {
+        bytes[0] = (uint8_t)both;
+        bytes[1] = (uint8_t)(both >> 8);
+        if (both < 256)
+            visit(bytes, 1);
+        visit(bytes, 2);
     }
-    report("frames of 0 to 2 bytes: all");
 }
 
-/* All frames of few bytes that begin, continue and end numbers. */
-static void check_odd_bytes(void)
+/* All of 3 to 5 bytes that begin, continue and end numbers. */
+static void each_odd(bytes_visit *visit)
 {
     const uint8_t odd[] = {0x00, 0x01, 0x02, 0x7f, 0x80, 0x81, 0xff};
+    uint8_t bytes[5];
 
-    for (size_t length = 3, frames = 343; length <= 5; length++, frames *= COUNT_OF(odd))
-        for (size_t which = 0; which < frames; which++) {
+    for (size_t length = 3, choices = 343; length <= sizeof bytes; length++, choices *= COUNT_OF(odd))
+        for (size_t which = 0; which < choices; which++) {
             size_t left = which;
             for (size_t i = 0; i < length; i++, left /= COUNT_OF(odd))
-                frame[i] = odd[left % COUNT_OF(odd)];
-            check_frame(frame, length);
+                bytes[i] = odd[left % COUNT_OF(odd)];
+            visit(bytes, length);
         }
+}
+
+static void check_short_frames(void)
+{
+    each_short(check_frame);
+    report("frames of 0 to 2 bytes: all");
+    each_odd(check_frame);
     report("frames of 3 to 5 bytes that are 00, 01, 02, 7f, 80, 81 or ff: all");
 }
 
@@ -293,6 +325,156 @@ static void check_lists(void)
     report("lists with odd lengths and numbers");
 }
 
+/* Costs and step sheets, for the job lent. */
+
+/* The reference is held to the rows by its own test. */
+static void check_sheet_row(const struct sheet_row *row)
+{
+    static struct numbers numbers;
+    uint8_t bytes[ROW_ROOM];
+    size_t length = from_hex(row->job, frame);
+
+    divide(frame, length, NUMBER_BYTES, &numbers);
+    lend_job(frame, length);
+    expect("the row's refusal", read_job(&numbers, &job), 0);
+    if (row->sheet != NULL)
+        check_sheet(0, &job, bytes, from_hex(row->sheet, bytes));
+    if (row->costs != NULL)
+        check_costs(0, &job, bytes, from_hex(row->costs, bytes));
+}
+
+static void check_sheet_rows(void)
+{
+    thorough = true;
+    for (size_t i = 0; i < SHEET_ROWS; i++)
+        check_sheet_row(&sheet_rows[i]);
+    thorough = false;
+    report_moves("rows of costs and step sheets");
+}
+
+static const uint32_t odd_costs[] = {0, 1, 2, COST_MOST - 1, COST_MOST};
+
+/* A job of parallel links, the first with this one of the odd costs. */
+static void lend_parallel(size_t links, size_t first)
+{
+    job.nodes = links == 0 ? 1 : 2;
+    job.edges = links;
+    fill_parallel(job.edge, links);
+    for (size_t e = 0; e < links; e++)
+        job.edge[e].cost = odd_costs[(first + 2 * e) % COUNT_OF(odd_costs)];
+    lend_job(frame, put_job(frame, &job));
+}
+
+static void check_both(const uint8_t *bytes, size_t length)
+{
+    check_costs(0, &job, bytes, length);
+    check_sheet(0, &job, bytes, length);
+}
+
+static void check_short_sheets(void)
+{
+    for (size_t links = 0; links <= 2; links++) {
+        lend_parallel(links, 1);
+        each_short(check_both);
+        each_odd(check_both);
+    }
+    report_moves("costs and sheets of 0 to 2 bytes, and of 3 to 5 as above, for jobs of 0 to 2 links: all");
+}
+
+enum { MOVES_TRIED = 3, CODES_TRIED = 6 };
+
+/* The sheets that begin with these moves and have at most so many more, of any link of the job or the next and of any low
+ * code, under right and wrong counts. */
+static void check_more_moves(struct sheet *sheet, size_t more)
+{
+    uint8_t bytes[ROW_ROOM];
+    uint32_t choices = more == 0 ? 0 : CODES_TRIED * ((uint32_t)job.edges + 1);
+
+    for (uint32_t count = 0; count <= MOVES_TRIED + 1; count++)
+        check_sheet(0, &job, bytes, put_moves(bytes, count, sheet->move, sheet->moves));
+    for (uint32_t choice = 0; choice < choices; choice++) {
+        sheet->move[sheet->moves++] = (struct move){choice / CODES_TRIED, choice % CODES_TRIED};
+        check_more_moves(sheet, more - 1);
+        sheet->moves--;
+    }
+}
+
+/* One move from one end of the range to the other, nearly, or farther. */
+static void check_far_moves(void)
+{
+    const uint32_t far = 2 * COST_MOST, code[] = {far - 2, far - 1, far, far + 1, far + 2, CODE_MOST - 1, CODE_MOST};
+    uint8_t bytes[ROW_ROOM];
+
+    for (uint32_t edge = 0; edge <= job.edges; edge++)
+        for (size_t i = 0; i < COUNT_OF(code); i++)
+            check_sheet(0, &job, bytes, put_moves(bytes, 1, &(struct move){edge, code[i]}, 1));
+}
+
+static void check_few_moves(void)
+{
+    static struct sheet sheet;
+
+    for (size_t links = 0; links <= 3; links++)
+        for (size_t first = 0; first < (links == 0 ? 1 : COUNT_OF(odd_costs)); first++) {
+            lend_parallel(links, first);
+            check_more_moves(&sheet, MOVES_TRIED);
+            check_far_moves();
+        }
+    report_moves("sheets of up to 3 moves with codes 0 to 5, and of 1 with a long code, for jobs of 0 to 3 links: all");
+}
+
+/* All links of the largest job move from one end of the range to the other. */
+static void check_longest_sheet(uint32_t from, int32_t to)
+{
+    static int32_t cost[EDGES_MOST];
+    uint8_t costs[SHEET_ROOM];
+
+    random_job(&job, NODES_MOST, EDGES_MOST, true);
+    for (size_t e = 0; e < EDGES_MOST; e++) {
+        job.edge[e].cost = from;
+        cost[e] = to;
+    }
+    size_t length = put_costs(costs, cost, EDGES_MOST);
+    expect("the length of the costs", (int64_t)length, to == 0 ? EDGES_MOST : IST_COSTS_MOST);
+    lend_job(frame, put_job(frame, &job));
+    check_costs(0, &job, costs, length);
+}
+
+static void check_longest_sheets(void)
+{
+    thorough = true;
+    check_longest_sheet(0, COST_MOST);
+    expect("the longest sheet's length", (int64_t)counts.sheet_longest, IST_SHEET_MOST);
+    check_longest_sheet(COST_MOST, 0);
+    thorough = false;
+    report_moves("costs with the longest sheet");
+}
+
+/* For the largest job, which is still lent: one number all through, and behind the count of a full sheet. */
+static void check_long_sheets(void)
+{
+    const size_t lengths[] = {255, 256, 257, 767, 768, 769, 1409, 1410, 1411, 2048, 65536, 1000000};
+    const char *const fillers[] = {"00", "01", "80", "FF", "FF 7F", "FF FF 7F", "FF FF FF 01", "80 80 80 80 01"};
+
+    for (size_t i = 0; i < COUNT_OF(lengths); i++)
+        for (size_t j = 0; j < COUNT_OF(fillers); j++) {
+            fill_frame(fillers[j], lengths[i]);
+            check_both(frame, lengths[i]);
+            put_number(frame, EDGES_MOST);
+            check_both(frame, lengths[i]);
+        }
+    report_moves("costs and sheets of 255 to 1,000,000 bytes");
+}
+
+static void check_sheets(void)
+{
+    check_sheet_rows();
+    check_short_sheets();
+    check_few_moves();
+    check_longest_sheets();
+    check_long_sheets();
+}
+
 /* Random frames. */
 
 static void check_random_job(uint32_t nodes_most, size_t edges_most, bool full)
@@ -412,6 +594,15 @@ static void print_list_counts(void)
     printf("; %zu list calls\n", counts.list_calls);
 }
 
+static void print_move_counts(void)
+{
+    printf("%zu sheets made, up to %zu bytes, %zu costs refused 8; ", counts.sheets_made, counts.sheet_longest,
+           counts.costs_refused);
+    printf("%zu sheets applied, %zu refused 8, %zu of them for a cost out of range; ", counts.sheets_applied,
+           counts.sheets_refused, counts.sheets_leaving);
+    printf("%zu costs and sheets refused with their job\n", counts.moves_refused);
+}
+
 static void print_counts(void)
 {
     printf("%zu frames: %zu accepted", counts.frames, counts.refused[0]);
@@ -424,6 +615,7 @@ static void print_counts(void)
            counts.offers_yes, counts.offers_no);
     printf("%zu frames read into arrays\n", counts.reads);
     print_list_counts();
+    print_move_counts();
 }
 
 int main(int argc, char **argv)
@@ -435,13 +627,13 @@ int main(int argc, char **argv)
     check_rows();
     check_link_counts();
     check_short_frames();
-    check_odd_bytes();
     check_long_numbers();
     check_small_jobs();
     check_longest_jobs();
     check_longest_answer();
     check_long_frames();
     check_lists();
+    check_sheets();
     check_random(count);
     print_counts();
     printf("OK\n");

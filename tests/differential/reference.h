@@ -1,6 +1,7 @@
-/* A second implementation of document 01, to hold the library against. It shares no code with it and finds the answers
- * another way: frames are read by a state machine, question 6 is union-find, the tree is judged by Prim's algorithm, paths
- * are walked up parent pointers, and steps and costs come from one minimum cut for every level of cost. */
+/* A second implementation of document 01 and of requests A.1 and A.2, to hold the library against; sheets.h has the step
+ * sheets. It shares no code with it and finds the answers another way: frames are read by a state machine, question 6 is
+ * union-find, the tree is judged by Prim's algorithm, paths are walked up parent pointers, and steps and costs come from one
+ * minimum cut for every level of cost. */
 #ifndef REFERENCE_H
 #define REFERENCE_H
 
@@ -13,6 +14,7 @@ enum {
     EDGES_MOST = 256,
     NUMBER_BYTES = 3,
     STEP_BYTES = 4,
+    CODE_BYTES = 4,
     COST_MOST = 2097151,
     NUMBERS_MOST = 2 + 4 * EDGES_MOST,
     PAIRS_MOST = 2 * NODES_MOST,
@@ -62,8 +64,10 @@ struct solution {
     struct matching matching;
 };
 
-/* frame.c: `first_most` is how many bytes the first number may have; all others may have NUMBER_BYTES. */
+/* frame.c: `first_most` is how many bytes the first number may have; all others may have NUMBER_BYTES. In a sheet all may have
+ * CODE_BYTES. */
 void divide(const uint8_t *frame, size_t length, size_t first_most, struct numbers *numbers);
+void divide_sheet(const uint8_t *sheet, size_t length, struct numbers *numbers);
 size_t put_number(uint8_t *to, uint32_t value);
 size_t put_edges(uint8_t *to, uint32_t nodes, const struct edge *edge, size_t count);
 size_t put_job(uint8_t *to, const struct job *job);

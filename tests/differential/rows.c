@@ -3,12 +3,19 @@
 
 #include "rows.h"
 
+/* The job of T1, whose costs are 5, 4 and 2, and jobs of one link or none. */
+#define JOB_T1 "03 03 00 01 05 01 01 02 04 01 00 02 02 00"
+#define JOB_LOWEST "02 01 00 01 00 01"
+#define JOB_16383 "02 01 00 01 FF 7F 01"
+#define JOB_HIGHEST "02 01 00 01 FF FF 7F 01"
+#define JOB_BARE "01 00"
+
 const struct row rows[ROWS] = {
-    {"T1", "03 03 00 01 05 01 01 02 04 01 00 02 02 00", 0, "03 04 04 04 01 00 02"},
-    {"T2", "01 00", 0, "00 00"},
+    {"T1", JOB_T1, 0, "03 04 04 04 01 00 02"},
+    {"T2", JOB_BARE, 0, "00 00"},
     {"T3", "02 02 00 01 07 01 00 01 07 00", 0, "00 07 07 00"},
     {"T4", "02 02 00 01 07 01 00 01 06 00", 0, "01 06 06 01 00 01"},
-    {"T5", "02 01 00 01 FF 7F 01", 0, "00 FF 7F 00"},
+    {"T5", JOB_16383, 0, "00 FF 7F 00"},
     {"T6", "80 00", 1, ""},
     {"T7", "", 2, ""},
     {"T8", "02 01 00 00 05 02", 4, ""},
@@ -27,12 +34,42 @@ const struct row rows[ROWS] = {
     {"end of four bytes", "02 01 80 80 80 01 01 05 01", 1, ""},
     {"mark of four bytes", "02 01 00 01 05 81 80 80 01", 1, ""},
     {"cost 16,384", "02 01 00 01 80 80 01 01", 0, "00 80 80 01 00"},
-    {"cost 2,097,151", "02 01 00 01 FF FF 7F 01", 0, "00 FF FF 7F 00"},
+    {"cost 2,097,151", JOB_HIGHEST, 0, "00 FF FF 7F 00"},
     {"cost 2,097,152", "02 01 00 01 80 80 80 01 01", 1, ""},
     {"2,097,152 steps", "03 04 00 01 FF FF 7F 01 00 01 00 00 01 02 01 01 01 02 00 00", 0,
      "80 80 80 01 00 00 00 00 02 00 01 02 03"},
     {"links missing", "01 01", 3, ""},
     {"257 links", "02 81 02", 2, ""},
+};
+
+const struct sheet_row sheet_rows[SHEET_ROWS] = {
+    {"T1's answer", JOB_T1, "02 00 01 02 04", "04 04 04"},
+    {"nothing moved", JOB_T1, "00", "05 04 02"},
+    {"no link", JOB_BARE, "00", ""},
+    {"down by 16,383", JOB_16383, "01 00 FD FF 01", "00"},
+    {"up by 2,097,151", JOB_LOWEST, "01 00 FE FF FF 01", "FF FF 7F"},
+    {"down by 2,097,151", JOB_HIGHEST, "01 00 FD FF FF 01", "00"},
+    {"up by 2,097,152", JOB_LOWEST, "01 00 80 80 80 02", NULL},
+    {"up past 2,097,151", JOB_HIGHEST, "01 00 02", NULL},
+    {"down past 0", JOB_T1, "01 02 05", NULL},
+    {"code 268,435,455", JOB_T1, "01 00 FF FF FF 7F", NULL},
+    {"a code of five bytes", JOB_T1, "01 00 80 80 80 80 01", NULL},
+    {"code 0", JOB_T1, "01 00 00", NULL},
+    {"code 1 in two bytes", JOB_T1, "01 00 81 00", NULL},
+    {"links that fall", JOB_T1, "02 02 04 00 01", NULL},
+    {"a link twice", JOB_T1, "02 00 01 00 01", NULL},
+    {"link 3 of 3", JOB_T1, "01 03 02", NULL},
+    {"a move missing", JOB_T1, "02 00 01", NULL},
+    {"a move too many", JOB_T1, "01 00 01 02 04", NULL},
+    {"no bytes", JOB_T1, "", NULL},
+    {"no move in two bytes", JOB_T1, "80 00", NULL},
+    {"costs missing", JOB_T1, NULL, ""},
+    {"a cost missing", JOB_T1, NULL, "04 04"},
+    {"a cost too many", JOB_T1, NULL, "04 04 04 04"},
+    {"a cost cut", JOB_T1, NULL, "04 04 84"},
+    {"cost 4 in two bytes", JOB_T1, NULL, "84 00 04 04"},
+    {"a cost of four bytes", JOB_T1, NULL, "04 04 80 80 80 01"},
+    {"a cost of no link", JOB_BARE, NULL, "00"},
 };
 
 const char thirteen[] = "03 04 00 01 09 01 01 02 08 01 00 02 01 00 00 02 03 00";

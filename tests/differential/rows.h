@@ -1,12 +1,12 @@
 /* The bench rows of document 01, and rows with numbers of three and four bytes: a job frame with its answer frame or its
- * refusal. */
+ * refusal. Rows of step sheets: a job frame with a sheet and the costs that it leads to. */
 #ifndef ROWS_H
 #define ROWS_H
 
 #include <stddef.h>
 #include <stdint.h>
 
-enum { ROW_ROOM = 64, ROWS = 28 };
+enum { ROW_ROOM = 64, ROWS = 28, SHEET_ROWS = 27 };
 
 struct row {
     const char *name, *job;
@@ -14,7 +14,13 @@ struct row {
     const char *answer;
 };
 
+/* A sheet or costs beside NULL are refused by 8. */
+struct sheet_row {
+    const char *name, *job, *sheet, *costs;
+};
+
 extern const struct row rows[ROWS];
+extern const struct sheet_row sheet_rows[SHEET_ROWS];
 /* 13 steps, all costs 3, either pairing. */
 extern const char thirteen[];
 

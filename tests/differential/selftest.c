@@ -1,4 +1,4 @@
-/* Holds the reference to document 01's rows and to trying everything, without the library.
+/* Holds the reference to document 01's rows and to trying everything, and sheets and costs to each other, without the library.
  *
  * Run: selftest [COUNT] [SEED]    COUNT random jobs (default 20000) besides the rows and all small jobs. */
 #include <stdio.h>
@@ -8,12 +8,13 @@
 #include "exhaustive.h"
 #include "generate.h"
 #include "rows.h"
+#include "vary.h"
 
 static struct job job;
 static struct solution solution;
 static struct search search;
 static struct trees trees;
-static size_t jobs_searched, jobs_proved, choices_judged, lists_judged;
+static size_t jobs_searched, jobs_proved, choices_judged, lists_judged, sheets_applied;
 
 static void require(bool holds, const char *what)
 {
@@ -144,9 +145,43 @@ static void check_round_trip(void)
             "the job's frame reads as the job");
 }
 
+static void check_costs(void)
+{
+    static struct sheet sheet, again;
+    static uint8_t bytes[SHEET_ROOM];
+    static int32_t cost[EDGES_MOST], back[EDGES_MOST];
+    size_t size = job.edges * sizeof cost[0];
+
+    random_costs(&job, cost);
+    require(read_costs(&job, bytes, put_costs(bytes, cost, job.edges), back), "the costs are in form");
+    require(memcmp(back, cost, size) == 0, "the costs read as the costs");
+    make_sheet(&job, cost, &sheet);
+    require(steps_of(&sheet) == (int64_t)deviation(&job, cost), "the sheet's changes");
+    require(read_sheet(&job, bytes, put_sheet(bytes, &sheet), &again), "the costs' sheet is in form");
+    require(apply_sheet(&job, &again, back) && memcmp(back, cost, size) == 0, "the costs' sheet leads to them");
+}
+
+static void check_sheet(void)
+{
+    static struct sheet sheet, again;
+    static uint8_t bytes[SHEET_ROOM];
+    static int32_t cost[EDGES_MOST];
+
+    random_sheet(&job, &sheet);
+    require(read_sheet(&job, bytes, put_sheet(bytes, &sheet), &again), "a sheet is in form");
+    if (!apply_sheet(&job, &again, cost))
+        return;
+    make_sheet(&job, cost, &again);
+    require(again.moves == sheet.moves && memcmp(again.move, sheet.move, sheet.moves * sizeof sheet.move[0]) == 0,
+            "a sheet is that of the costs it leads to");
+    sheets_applied++;
+}
+
 static void check_job(void)
 {
     check_round_trip();
+    check_costs();
+    check_sheet();
     solve(&job, &solution);
     check_by_proof();
     if (job.edges <= 6 && solution.steps <= 4)
@@ -191,6 +226,55 @@ static void check_row(const struct row *row)
     require(judged_yes(&answer), row->name);
 }
 
+/* The costs that a sheet leads to; false if it is refused. */
+static bool apply_text(const char *text, uint8_t *to, size_t *length)
+{
+    static struct sheet sheet;
+    static int32_t cost[EDGES_MOST];
+    uint8_t bytes[ROW_ROOM];
+
+    if (!read_sheet(&job, bytes, from_hex(text, bytes), &sheet) || !apply_sheet(&job, &sheet, cost))
+        return false;
+    *length = put_costs(to, cost, job.edges);
+    return true;
+}
+
+/* The sheet of costs; false if they are refused. */
+static bool make_text(const char *text, uint8_t *to, size_t *length)
+{
+    static struct sheet sheet;
+    static int32_t cost[EDGES_MOST];
+    uint8_t bytes[ROW_ROOM];
+
+    if (!read_costs(&job, bytes, from_hex(text, bytes), cost))
+        return false;
+    make_sheet(&job, cost, &sheet);
+    *length = put_sheet(to, &sheet);
+    return true;
+}
+
+typedef bool from_text(const char *text, uint8_t *to, size_t *length);
+
+/* One text, if it is there, makes the other, or is refused if that is not there. */
+static void require_text(const char *name, from_text *make, const char *text, const char *wanted)
+{
+    uint8_t made[ROW_ROOM], bytes[ROW_ROOM];
+    size_t length = 0;
+
+    if (text == NULL)
+        return;
+    require(make(text, made, &length) == (wanted != NULL), name);
+    if (wanted != NULL)
+        require(from_hex(wanted, bytes) == length && memcmp(made, bytes, length) == 0, name);
+}
+
+static void check_sheet_row(const struct sheet_row *row)
+{
+    read_row(row->job, 0);
+    require_text(row->name, apply_text, row->sheet, row->costs);
+    require_text(row->name, make_text, row->costs, row->sheet);
+}
+
 static void check_thirteen(void)
 {
     read_row(thirteen, 0);
@@ -206,6 +290,8 @@ int main(int argc, char **argv)
     seed(argc > 2 ? strtoull(argv[2], NULL, 10) : 1);
     for (size_t i = 0; i < ROWS; i++)
         check_row(&rows[i]);
+    for (size_t i = 0; i < SHEET_ROWS; i++)
+        check_sheet_row(&sheet_rows[i]);
     check_thirteen();
     each_small_job(check_small_job);
     for (long i = 0; i < count; i++) {
@@ -214,6 +300,6 @@ int main(int argc, char **argv)
         check_job();
     }
     printf("selftest: %zu jobs proved by their matching, %zu of them searched whole, ", jobs_proved, jobs_searched);
-    printf("%zu costs and %zu lists of pairs judged\n", choices_judged, lists_judged);
+    printf("%zu costs and %zu lists of pairs judged, %zu sheets applied\n", choices_judged, lists_judged, sheets_applied);
     return 0;
 }
