@@ -1,5 +1,5 @@
 /* Measures the library, the plain C version and LEMON on a file of jobs: each frame is preceded by its length in four bytes,
- * lowest first. Usage: bench check|time|library|plain|stack FILE */
+ * lowest first. Usage: bench check|time|library|plain|sheets|stack FILE */
 #define _GNU_SOURCE
 #include "../include/ist.h"
 #include "lemon.h"
@@ -143,6 +143,33 @@ static void check(jobs all)
     for (int number = 1; number <= 6; number++)
         printf(" %zu", refused[number]);
     printf("\n");
+}
+
+/* Step sheets: that of each answer is made and applied again. */
+
+/* The costs of an answer, as its own bytes; none of a refused job. */
+static frame costs_of(frame job, const reply *r)
+{
+    plain_job accepted;
+    if (plain_accept(job.bytes, job.length, &accepted) != 0)
+        return (frame){r->area, 0};
+    size_t first = numbers_length(r, 1);
+    return (frame){r->area + first, numbers_length(r, 1 + accepted.edges) - first};
+}
+
+static void run_sheets(jobs all)
+{
+    uint8_t sheet[IST_SHEET_MOST], again[IST_COSTS_MOST];
+    size_t sheet_length, length;
+    for (size_t i = 0; i < all.count; i++) {
+        frame job = all.frame[i];
+        reply answer = ask(ist_answer, job);
+        frame costs = costs_of(job, &answer);
+        int32_t made = ist_sheet(job.bytes, job.length, costs.bytes, costs.length, sheet, sizeof sheet, &sheet_length);
+        int32_t applied = ist_apply_sheet(job.bytes, job.length, sheet, sheet_length, again, sizeof again, &length);
+        if (made != answer.refusal || applied != answer.refusal || length != costs.length || memcmp(again, costs.bytes, length) != 0)
+            fail("the answer's sheet does not lead to its costs", i);
+    }
 }
 
 /* Time: rounds of each version in turn, in processor time. */
@@ -298,7 +325,7 @@ static void measure_stack(jobs all)
 
 static int usage(void)
 {
-    fprintf(stderr, "usage: bench check|time|library|plain|stack FILE\n");
+    fprintf(stderr, "usage: bench check|time|library|plain|sheets|stack FILE\n");
     return 2;
 }
 
@@ -316,6 +343,8 @@ int main(int count, char **argument)
         run_answers(ist_answer, all);
     else if (strcmp(mode, "plain") == 0)
         run_answers(plain_answer, all);
+    else if (strcmp(mode, "sheets") == 0)
+        run_sheets(all);
     else if (strcmp(mode, "stack") == 0)
         measure_stack(all);
     else

@@ -14,10 +14,10 @@ static uint8_t stack[STACK];
 static ucontext_t caller;
 
 /* What every call is given, and where it writes. */
-static uint8_t job[FRAME], answer[IST_ANSWER_MOST], area[IST_JOB_MOST];
+static uint8_t job[FRAME], answer[IST_ANSWER_MOST], new_costs[IST_COSTS_MOST], sheet[IST_SHEET_MOST], area[IST_JOB_MOST];
 static ist_link links[LINKS], read_links[LINKS];
 static uint32_t costs[LINKS], pairs[2 * PAIRS], stations, read_stations, steps;
-static size_t job_length, answer_length, count, read_count, pair_count, written, offset, length;
+static size_t job_length, answer_length, costs_length, sheet_length, count, read_count, pair_count, written, offset, length;
 
 static void nothing(void)
 {
@@ -36,6 +36,16 @@ static void call_judge(void)
 static void call_judge_answer(void)
 {
     ist_judge_answer(job, job_length, answer, answer_length);
+}
+
+static void call_sheet(void)
+{
+    ist_sheet(job, job_length, new_costs, costs_length, area, sizeof area, &written);
+}
+
+static void call_apply_sheet(void)
+{
+    ist_apply_sheet(job, job_length, sheet, sheet_length, area, sizeof area, &written);
 }
 
 static void call_find_link(void)
@@ -91,6 +101,8 @@ static struct {
     {"ist_answer", call_answer, 0},
     {"ist_judge", call_judge, 0},
     {"ist_judge_answer", call_judge_answer, 0},
+    {"ist_sheet", call_sheet, 0},
+    {"ist_apply_sheet", call_apply_sheet, 0},
     {"ist_find_link", call_find_link, 0},
     {"ist_find_cost", call_find_cost, 0},
     {"ist_read_job", call_read_job, 0},
@@ -135,10 +147,23 @@ static int next_job(FILE *file)
     return 1;
 }
 
+/* The new costs of the answer, as its own bytes, and their sheet; both empty for a refused job. */
+static void make_sheet(void)
+{
+    size_t first = 0, last = 0, last_length = 0;
+    ist_find_cost(job, job_length, answer, answer_length, 0, &first, &last_length);
+    if (count > 0)
+        ist_find_cost(job, job_length, answer, answer_length, (uint32_t)count - 1, &last, &last_length);
+    costs_length = last + last_length - first;
+    memcpy(new_costs, answer + first, costs_length);
+    ist_sheet(job, job_length, new_costs, costs_length, sheet, sizeof sheet, &sheet_length);
+}
+
 static void measure(size_t empty)
 {
     ist_read_job(job, job_length, links, 4 * LINKS, &stations, &count);
     ist_answer(job, job_length, answer, sizeof answer, &answer_length);
+    make_sheet();
     for (size_t i = 0; i < FUNCTIONS; i++) {
         size_t taken = depth(functions[i].call) - empty;
         if (functions[i].most < taken)
