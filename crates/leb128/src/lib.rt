@@ -91,6 +91,27 @@ pub fn read_short(bytes: &[u8], at: usize) -> Number
     Number::Value(first - 128 + 128 * upper, next)
 }
 
+// The number of at most four bytes that stands at `at`: the same as `read`, without a call for each byte.
+pub fn read_long(bytes: &[u8], at: usize) -> Number
+    ensures { λ r. ⌜ r ≡ readAt 4 (now (bytes .entry)) at ⌝ }
+{
+    if bytes.len() <= at {
+        return Number::Refused;
+    }
+    let first = bytes[at] as u32;
+    if first < 128 {
+        return Number::Value(first, at + 1);
+    }
+    let rest = read_short(bytes, at + 1);
+    let Number::Value(groups, next) = rest else {
+        return Number::Refused;
+    };
+    if groups == 0 {
+        return Number::Refused;
+    }
+    Number::Value(first - 128 + 128 * groups, next)
+}
+
 // The number of at most two bytes that is known to stand at `at`.
 fn known_two(bytes: &[u8], at: usize) -> Known
     requires { ⌜ Stands 2 (now bytes) at ⌝ }

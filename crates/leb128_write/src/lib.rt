@@ -33,6 +33,16 @@ pub fn size_short(x: u32) -> usize
     3
 }
 
+// How many bytes `x` takes, of at most four.
+pub fn size_long(x: u32) -> usize
+    ensures { λ r. ⌜ r ≡ length (encode 4 x) ⌝ }
+{
+    if x < 128 {
+        return 1;
+    }
+    1 + size_short(x / 128)
+}
+
 // Puts `x` at `at` and gives the position behind it.
 pub fn write(area: &mut [u8], at: usize, x: u32, most: u32) -> usize
     requires { ⌜ at + length (encode most x) ≤ length (now area) ⌝ }
@@ -88,4 +98,18 @@ pub fn write_short(area: &mut [u8], at: usize, x: u32) -> usize
     }
     area[at] = (x % 128 + 128) as u8;
     write_two(area, at + 1, x / 128)
+}
+
+// Puts `x` at `at` in at most four bytes.
+pub fn write_long(area: &mut [u8], at: usize, x: u32) -> usize
+    requires { ⌜ at + length (encode 4 x) ≤ length (now area) ⌝ }
+    ensures next { λ r. ⌜ r ≡ at + length (encode 4 x) ⌝ }
+    ensures area { λ r. ⌜ now (area .exit) ≡ sets (now (area .entry)) at (encode 4 x) ⌝ }
+{
+    if x < 128 {
+        area[at] = x as u8;
+        return at + 1;
+    }
+    area[at] = (x % 128 + 128) as u8;
+    write_short(area, at + 1, x / 128)
 }

@@ -11,7 +11,6 @@ ghost use Rattle.sheet_read.specs.Applying.{entryAt, inRange, given};
 use division::Numbers;
 use division::count_numbers;
 use leb128::Number;
-use limits::CHANGE_BYTES;
 use limits::MOST_NUMBER;
 
 // What stands at a position of a sheet.
@@ -33,11 +32,11 @@ pub enum Cost {
 fn entry_at(sheet: &[u8], at: usize) -> Entry
     ensures { λ r. ⌜ r ≡ entryAt (now (sheet .entry)) at ⌝ }
 {
-    let first = leb128::read(sheet, at, CHANGE_BYTES);
+    let first = leb128::read_long(sheet, at);
     let Number::Value(edge, middle) = first else {
         return Entry::Refused;
     };
-    let second = leb128::read(sheet, middle, CHANGE_BYTES);
+    let second = leb128::read_long(sheet, middle);
     let Number::Value(code, next) = second else {
         return Entry::Refused;
     };
@@ -83,7 +82,7 @@ pub fn apply_moves(sheet: &[u8], edges: usize, costs: &mut [u32; 256]) -> bool
     requires { ⌜ InRange edges (costsAt (now costs)) ⌝ }
     ensures { λ r. ⌜ given r (costsAt (now (costs .exit))) ≡ applySheet edges (costsAt (now (costs .entry))) (now (sheet .entry)) ⌝ }
 {
-    let first = leb128::read(sheet, 0, CHANGE_BYTES);
+    let first = leb128::read_long(sheet, 0);
     let Number::Value(count, behind) = first else {
         return false;
     };

@@ -12,7 +12,6 @@ ghost use Rattle.sheet.specs.Reading.{costsAt};
 ghost use Rattle.sheet.specs.EntryLaws.{entriesBytes};
 use codec::Reply;
 use codec::refused;
-use limits::CHANGE_BYTES;
 
 // How many links move, and how many bytes their entries take.
 struct Measured {
@@ -47,8 +46,8 @@ fn measure(edges: usize, old: &[u32; 256], new: &[u32; 256]) -> Measured
         let code = change_code(old[e], new[e]);
         if code != 0 {
             count += 1;
-            length += leb128_write::size(e as u32, CHANGE_BYTES);
-            length += leb128_write::size(code, CHANGE_BYTES);
+            length += leb128_write::size_long(e as u32);
+            length += leb128_write::size_long(code);
         }
         e += 1;
     }
@@ -72,8 +71,8 @@ fn put_moves(area: &mut [u8], at: usize, edges: usize, old: &[u32; 256], new: &[
     while e < edges {
         let code = change_code(old[e], new[e]);
         if code != 0 {
-            let middle = leb128_write::write(area, next, e as u32, CHANGE_BYTES);
-            next = leb128_write::write(area, middle, code, CHANGE_BYTES);
+            let middle = leb128_write::write_long(area, next, e as u32);
+            next = leb128_write::write_long(area, middle, code);
         }
         e += 1;
     }
@@ -89,11 +88,11 @@ pub fn write_sheet(edges: usize, old: &[u32; 256], new: &[u32; 256], area: &mut 
         ≡ written 0 (sheetFrame (movesOf edges (costsAt (now (old .entry))) (costsAt (now (new .entry))))) 0 (now (area .entry)) ⌝ }
 {
     let measured = measure(edges, old, new);
-    let front = leb128_write::size(measured.count, CHANGE_BYTES);
+    let front = leb128_write::size_long(measured.count);
     if area.len() < front + measured.length {
         return refused(7);
     }
-    let behind = leb128_write::write(area, 0, measured.count, CHANGE_BYTES);
+    let behind = leb128_write::write_long(area, 0, measured.count);
     let end = put_moves(area, behind, edges, old, new);
     Reply {
         refusal: 0,

@@ -59,8 +59,8 @@ inside e =
 few : (e : tie.Else1 Inv-loop μ-loop) → entry-of e .entry .given .0 .0 < 256
 few e = omega (arith, inside e, start-of (entry-of e) .pre .0)
 
-read-requires : tie.Need-read-requires Inv-loop μ-loop
-read-requires c κs = search needs
+read-long-requires : tie.Need-read-long-requires Inv-loop μ-loop
+read-long-requires c κs = search needs
 
 enum-known-first : tie.Need-enum-known-first Inv-loop μ-loop
 enum-known-first c = c .match .keys1
@@ -72,7 +72,7 @@ returns : tie.Need-returns Inv-loop μ-loop
 returns c =
     let r = c .before .before in
     let a = r .before .before .args in
-    no-count (a .edges) (costsAt (a .costs .now)) (a .sheet .now) (sym (r .read .ensures) ∙ c .enum-told .given .1)
+    no-count (a .edges) (costsAt (a .costs .now)) (a .sheet .now) (sym (r .read-long .ensures) ∙ c .enum-told .given .1)
 
 loop-holds : tie.Need-loop-holds Inv-loop μ-loop
 loop-holds c =
@@ -80,7 +80,7 @@ loop-holds c =
     let r = n .before .before in
     let s = r .before .before in
     let (within, rest) = count-read (s .args .edges) (costsAt (s .args .costs .now)) (s .args .sheet .now) (n .first .given .0 .0) (n .first .given .0 .1 .0)
-    (sym (r .read .ensures) ∙ n .first .given .1) in
+    (sym (r .read-long .ensures) ∙ n .first .given .1) in
     (within, s .pre .1 .0, s .pre .1 .1, rest)
 
 entry-at-requires : tie.Need-entry-at-requires Inv-loop μ-loop
@@ -183,7 +183,7 @@ apply-moves-spec =
     (tie.spec
     Inv-loop
     μ-loop
-    read-requires
+    read-long-requires
     enum-known-first
     enum-told
     returns

@@ -13,10 +13,10 @@ first-read :
     (f : tie.After-first) →
     let a = f .before .before .before .before .args in
     readAt changeBytes (a .sheet .now) (a .at) ≡ Value (f .first .given .0 .0) (f .first .given .0 .1 .0)
-first-read f = sym (f .before .before .read .ensures) ∙ f .first .given .1
+first-read f = sym (f .before .before .read-long .ensures) ∙ f .first .given .1
 
-read-requires : tie.Need-read-requires
-read-requires c κs = search needs
+read-long-requires : tie.Need-read-long-requires
+read-long-requires c κs = search needs
 
 enum-known-first : tie.Need-enum-known-first
 enum-known-first c = search needs
@@ -28,10 +28,10 @@ returns : tie.Need-returns
 returns c =
     let r = c .before .before in
     let a = r .before .before .args in
-    no-link (a .sheet .now) (a .at) (sym (r .read .ensures) ∙ c .enum-told .given .1)
+    no-link (a .sheet .now) (a .at) (sym (r .read-long .ensures) ∙ c .enum-told .given .1)
 
-read-requires-2 : tie.Need-read-requires-2
-read-requires-2 c κs = search needs
+read-long-requires-2 : tie.Need-read-long-requires-2
+read-long-requires-2 c κs = search needs
 
 enum-known-second : tie.Need-enum-known-second
 enum-known-second c = search needs
@@ -44,7 +44,7 @@ returns-2 c =
     let r = c .before .before in
     let f = r .before .before in
     let a = f .before .before .before .before .args in
-    no-code (a .sheet .now) (a .at) (f .first .given .0 .0) (f .first .given .0 .1 .0) (first-read f) (sym (r .read2 .ensures) ∙ c .enum-told2 .given .1)
+    no-code (a .sheet .now) (a .at) (f .first .given .0 .0) (f .first .given .0 .1 .0) (first-read f) (sym (r .read-long2 .ensures) ∙ c .enum-told2 .given .1)
 
 returns-3 : tie.Need-returns-3
 returns-3 c =
@@ -53,17 +53,17 @@ returns-3 c =
     let f = r .before .before in
     let a = f .before .before .before .before .args in
     entry-whole (a .sheet .now) (a .at) (f .first .given .0 .0) (f .first .given .0 .1 .0) (first-read f) (n .second .given .0 .0) (n .second .given .0 .1 .0)
-    (sym (r .read2 .ensures) ∙ n .second .given .1)
+    (sym (r .read-long2 .ensures) ∙ n .second .given .1)
 
 pub entry-at-spec : {M : Type 1} → statement M
 entry-at-spec =
     tie.close
     (tie.spec
-    read-requires
+    read-long-requires
     enum-known-first
     enum-told
     returns
-    read-requires-2
+    read-long-requires-2
     enum-known-second
     enum-told-2
     returns-2

@@ -60,19 +60,19 @@ add-count c =
     let a = l .before .args in
     omega (arith, moves-few (costsAt (a .old .now)) (costsAt (a .new .now)) (l .loop .e))
 
-cast-size : tie.Need-cast-size Inv-loop μ-loop
-cast-size c = omega arith
+cast-size-long : tie.Need-cast-size-long Inv-loop μ-loop
+cast-size-long c = omega arith
 
-size-requires : tie.Need-size-requires Inv-loop μ-loop
-size-requires c κs = search needs
+size-long-requires : tie.Need-size-long-requires Inv-loop μ-loop
+size-long-requires c κs = search needs
 
 add-length : tie.Need-add-length Inv-loop μ-loop
 add-length c =
     let l = c .before .before .before .before .before .before in
-    omega (arith, short l, c .size .ensures, encode-size-most changeBytes (l .loop .e))
+    omega (arith, short l, c .size-long .ensures, encode-size-most changeBytes (l .loop .e))
 
-size-requires-2 : tie.Need-size-requires-2 Inv-loop μ-loop
-size-requires-2 c κs = search needs
+size-long-requires-2 : tie.Need-size-long-requires-2 Inv-loop μ-loop
+size-long-requires-2 c κs = search needs
 
 add-length-2 : tie.Need-add-length-2 Inv-loop μ-loop
 add-length-2 c =
@@ -80,9 +80,9 @@ add-length-2 c =
     omega (
       arith,
       short l,
-      c .before .size .ensures,
+      c .before .size-long .ensures,
       encode-size-most changeBytes (l .loop .e),
-      c .size2 .ensures,
+      c .size-long2 .ensures,
       encode-size-most changeBytes (c .before .before .before .change-code .result),
     )
 
@@ -131,10 +131,10 @@ measure-spec =
     element-copy-out-change-code-2
     change-code-requires
     add-count
-    cast-size
-    size-requires
+    cast-size-long
+    size-long-requires
     add-length
-    size-requires-2
+    size-long-requires-2
     add-length-2
     add-e
     loop-less

@@ -55,13 +55,13 @@ room t =
 
 -- the link is put
 link-put :
-    (w : tie.After-write Inv-loop μ-loop) →
+    (w : tie.After-write-long Inv-loop μ-loop) →
     let l = w .before .before .before .before .before .before .before in
     let a = start-of l .args in
-    Put (a .area .now) (a .at) (bytes-to l (l .loop .e) ++ encode changeBytes (l .loop .e)) (w .write .result) (w .write .last .0)
+    Put (a .area .now) (a .at) (bytes-to l (l .loop .e) ++ encode changeBytes (l .loop .e)) (w .write-long .result) (w .write-long .last .0)
 link-put w =
     let l = w .before .before .before .before .before .before .before in
-    put-more _ _ _ _ _ _ _ _ (l .loop .inv .1) (w .write .ensures .0) (w .write .ensures .1)
+    put-more _ _ _ _ _ _ _ _ (l .loop .inv .1) (w .write-long .ensures .0) (w .write-long .ensures .1)
 
 loop-holds : tie.Need-loop-holds Inv-loop μ-loop
 unfolding gather flatMap
@@ -84,17 +84,17 @@ change-code-requires c κs =
     let s = c .before .before .before .before .before in
     (s .pre .1 .0 _ (omega arith), s .pre .1 .1 .0 _ (omega arith))
 
-cast-write : tie.Need-cast-write Inv-loop μ-loop
-cast-write c = omega arith
+cast-write-long : tie.Need-cast-write-long Inv-loop μ-loop
+cast-write-long c = omega arith
 
-write-requires : tie.Need-write-requires Inv-loop μ-loop
-write-requires c κs =
+write-long-requires : tie.Need-write-long-requires Inv-loop μ-loop
+write-long-requires c κs =
     let t = c .before in
     let l = t .before .before .before .before .before in
     put-room _ _ _ _ _ _ (l .loop .inv .1) (omega (arith, room t))
 
-write-requires-2 : tie.Need-write-requires-2 Inv-loop μ-loop
-write-requires-2 c κs =
+write-long-requires-2 : tie.Need-write-long-requires-2 Inv-loop μ-loop
+write-long-requires-2 c κs =
     let w = c .before .before .before in
     let t = w .before .before in
     let l = t .before .before .before .before .before in
@@ -146,9 +146,9 @@ put-moves-spec =
     mul-change-code-2
     element-copy-out-change-code-2
     change-code-requires
-    cast-write
-    write-requires
-    write-requires-2
+    cast-write-long
+    write-long-requires
+    write-long-requires-2
     add-e
     loop-less
     loop-again

@@ -18,7 +18,7 @@ use Rattle.sheet_write.proofs.write_sheet.Statement.{statement}
 use Rattle.sheet_write.proofs.write_sheet.Tie as tie
 
 -- the moves, and how long their sheet is
-abbrev start-of : tie.After-size → tie.Start
+abbrev start-of : tie.After-size-long → tie.Start
 start-of z = z .before .before .before
 
 abbrev moves : tie.Start → List Move
@@ -27,34 +27,34 @@ moves s = movesOf (s .args .edges) (costsAt (s .args .old .now)) (costsAt (s .ar
 parts : (s : tie.Start) → length (sheetFrame (moves s)) ≡ length (encode changeBytes (length (moves s))) + length (entriesBytes (moves s))
 parts s = ap length (sheet-parts (moves s)) ∙ length-append (encode changeBytes (length (moves s))) (entriesBytes (moves s))
 
-total : (z : tie.After-size) → z .size .result + z .before .measure .result .length ≡ length (sheetFrame (moves (start-of z)))
+total : (z : tie.After-size-long) → z .size-long .result + z .before .measure .result .length ≡ length (sheetFrame (moves (start-of z)))
 total z =
     omega (
       arith,
       z .before .measure .ensures,
-      z .size .ensures,
+      z .size-long .ensures,
       ap (λ (n : ℕ). length (encode changeBytes n)) (z .before .measure .ensures .0),
       parts (start-of z),
     )
 
 -- the count is put in front
-abbrev size-of : tie.After-write → tie.After-size
+abbrev size-of : tie.After-write-long → tie.After-size-long
 size-of w = w .before .before .before .before
 
 count-put :
-    (w : tie.After-write) →
+    (w : tie.After-write-long) →
     let s = start-of (size-of w) in
-    Put (s .args .area .now) 0 (encode changeBytes (length (moves s))) (w .write .result) (w .write .last .0)
+    Put (s .args .area .now) 0 (encode changeBytes (length (moves s))) (w .write-long .result) (w .write-long .last .0)
 count-put w =
     let s = start-of (size-of w) in
-    subst (λ (n : ℕ). Put (s .args .area .now) 0 (encode changeBytes n) (w .write .result) (w .write .last .0)) (size-of w .before .measure .ensures .0)
-    (record { next = w .write .ensures .0; area = w .write .ensures .1 })
+    subst (λ (n : ℕ). Put (s .args .area .now) 0 (encode changeBytes n) (w .write-long .result) (w .write-long .last .0)) (size-of w .before .measure .ensures .0)
+    (record { next = w .write-long .ensures .0; area = w .write-long .ensures .1 })
 
 measure-requires : tie.Need-measure-requires
 measure-requires c κs = search needs
 
-size-requires : tie.Need-size-requires
-size-requires c κs = search needs
+size-long-requires : tie.Need-size-long-requires
+size-long-requires c κs = search needs
 
 add-if1 : tie.Need-add-if1
 add-if1 c =
@@ -62,7 +62,7 @@ add-if1 c =
     let s = start-of z in
     omega (
       arith,
-      z .size .ensures,
+      z .size-long .ensures,
       encode-size-most changeBytes (z .before .measure .result .count),
       z .before .measure .ensures .1,
       entries-most (costsAt (s .args .old .now)) (costsAt (s .args .new .now)) (s .args .edges) (omega (arith, s .pre .0)),
@@ -78,8 +78,8 @@ returns c =
     let s = start-of z in
     rw (c .refused .ensures) (put-short 0 (sheetFrame (moves s)) 0 (s .args .area .now) refl (omega (arith, c .before .if1 .taken, total z)))
 
-write-requires : tie.Need-write-requires
-write-requires c κs = search needs
+write-long-requires : tie.Need-write-long-requires
+write-long-requires c κs = search needs
 
 put-moves-requires : tie.Need-put-moves-requires
 put-moves-requires c κs =
@@ -107,11 +107,11 @@ write-sheet-spec =
     tie.close
     (tie.spec
     measure-requires
-    size-requires
+    size-long-requires
     add-if1
     refused-requires
     returns
-    write-requires
+    write-long-requires
     put-moves-requires
     same-length
     returns-2)
