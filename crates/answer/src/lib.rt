@@ -11,7 +11,6 @@ ghost use Rattle.answer.specs.Contents.{matePairs, PairsListed};
 use codec::Reply;
 use codec::refused;
 use ids::Edge;
-use limits::STEP_BYTES;
 
 // How many bytes of the answer frame stand before its pairs.
 fn front_size(steps: u32, edges: usize, costs: &[u32; 256], count: usize) -> usize
@@ -19,7 +18,7 @@ fn front_size(steps: u32, edges: usize, costs: &[u32; 256], count: usize) -> usi
     requires { ⌜ count ≤ 64 ⌝ }
     ensures { λ r. ⌜ r ≡ length (answerFront steps edges (now (costs .entry)) count) ⌝ }
 {
-    leb128_write::size(steps, STEP_BYTES)
+    leb128_write::size_long(steps)
         + codec::numbers_size(costs, edges)
         + leb128_write::size_short(count as u32)
 }
@@ -64,7 +63,7 @@ fn put_answer(
     requires { ⌜ at + length (answerFrame (answerAt steps edges (now costs) count (now pairs))) ≤ length (now area) ⌝ }
     ensures { λ r. ⌜ Put (now (area .entry)) at (answerFrame (answerAt steps edges (now (costs .entry)) count (now (pairs .entry)))) r (now (area .exit)) ⌝ }
 {
-    let first = leb128_write::write(area, at, steps, STEP_BYTES);
+    let first = leb128_write::write_long(area, at, steps);
     let middle = codec::write_numbers(area, first, costs, edges);
     let last = leb128_write::write_short(area, middle, count as u32);
     codec::write_numbers(area, last, pairs, 2 * count)

@@ -13,7 +13,6 @@ use codec::skip;
 use division::Numbers;
 use division::count_numbers;
 use leb128::Number;
-use limits::STEP_BYTES;
 
 // The steps and the number of pairs, if the frame can be read.
 pub struct Contents {
@@ -47,7 +46,7 @@ pub fn load_answer(
     ensures count { λ r. ⌜ r .count ≤ 64 ⌝ }
     ensures behind { λ r. ⌜ (r .ok ≡ true → Behind edges (r .count) (now (costs .entry)) (now (costs .exit)) (now (pairs .entry)) (now (pairs .exit))) ⌝ }
 {
-    let first = leb128::read(frame, 0, STEP_BYTES);
+    let first = leb128::read_long(frame, 0);
     let Number::Value(steps, behind) = first else {
         return no_contents();
     };
@@ -82,7 +81,7 @@ pub fn cost_part(frame: &[u8], edge: usize) -> Part
     ensures place { λ r. ⌜ ((k : CostIn (now (frame .entry)) edge) → placeOf r ≡ costPlaceIn (k .answer) edge) ⌝ }
     ensures within { λ r. ⌜ r .offset + r .length ≤ length (now (frame .entry)) ⌝ }
 {
-    let steps = leb128::read(frame, 0, STEP_BYTES);
+    let steps = leb128::read_long(frame, 0);
     let Number::Value(_, behind) = steps else {
         return Part {
             offset: 0,

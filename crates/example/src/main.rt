@@ -38,7 +38,7 @@ fn print_costs(old: u32, new: u32) {
 // its own, so that no station is taken for it.
 fn print_cost(frame: &[u8], answer: &[u8], edge: Edge) {
     let part = finding::find_cost(frame, answer, edge);
-    let number = leb128::read(part, 0, 2);
+    let number = leb128::read_short(part, 0);
     let Number::Value(cost, _) = number else {
         return;
     };

@@ -1,7 +1,6 @@
 -- One step of the model of reading, in the shape of the code's own tests: a number of bytes that is 0 or not, a position in the
 -- slice or past it, a byte below 128 or not. Assumes nothing.
 use Prim.Native.Nat.{ℕ, zero, suc, _+_, _*_, _-_, _^_, _<_, _≤_}
-use native.Mathlib.Nat.{lt-of-lt-of-le, pow-le-pow-right}
 use native.Mathlib.Decide.{decLt}
 use native.Mathlib.Omega.{arith}
 use mathlib.Core.Path.{_≡_, refl, ap, _∙_}
@@ -53,9 +52,9 @@ module _ (k : ℕ) (s : List ℕ) (at : ℕ) (some : k ≡ 0 → ⊥) (within : 
   unfolding located extend
   read-refused e = rw (read-rest k s at some within more, located-refused (at + 1) (decode (k - 1) (drop (at + 1) s)) e)
 
-  pub read-long : (v next : ℕ) → readAt (k - 1) s (at + 1) ≡ Value v next → v ≡ 0 → readAt k s at ≡ Refused
+  pub read-padded : (v next : ℕ) → readAt (k - 1) s (at + 1) ≡ Value v next → v ≡ 0 → readAt k s at ≡ Refused
   unfolding located
-  read-long v next e null =
+  read-padded v next e null =
       let r = located-value (at + 1) (decode (k - 1) (drop (at + 1) s)) v next e in
       let d : decode (k - 1) (drop (at + 1) s) ≡ number 0 (r .0) = r .1 ∙ ap (λ (w : ℕ). number w (r .0)) null in
       rw (read-rest k s at some within more, d, extend-zero)
@@ -72,17 +71,10 @@ module _ (k : ℕ) (s : List ℕ) (at : ℕ) (some : k ≡ 0 → ⊥) (within : 
       (ap (λ (n : ℕ). Value (getD s at 0 - 128 + 128 * v) n) (omega arith))
 
 -- A number that was read is below 128 to the number of bytes that were allowed.
-pub read-bound :
-    (k top : ℕ) (s : List ℕ) (at v next : ℕ) →
-    k ≤ top →
-    Bytes s →
-    readAt k s at ≡ Value v next →
-    v < 128 ^ top
-read-bound k top s at v next l h e =
+pub read-bound : (k : ℕ) (s : List ℕ) (at v next : ℕ) → Bytes s → readAt k s at ≡ Value v next → v < 128 ^ k
+read-bound k s at v next h e =
     let r = located-value at (decode k (drop at s)) v next e in
-    lt-of-lt-of-le
-    (decode-bound k (drop at s) v (r .0) (bytes-drop at s h) (r .1))
-    (pow-le-pow-right (omega arith) l)
+    decode-bound k (drop at s) v (r .0) (bytes-drop at s h) (r .1)
 
 -- Two bytes at most, of which the first says that another follows.
 module _ (s : List ℕ) (at : ℕ) (within : at < length s) (more : 128 ≤ getD s at 0) where
@@ -100,7 +92,7 @@ module _ (s : List ℕ) (at : ℕ) (within : at < length s) (more : 128 ≤ getD
       second = read-last 1 s (at + 1) (some-byte 0) inside ends
 
       pub not-shortest : getD s (at + 1) 0 ≡ 0 → readAt 2 s at ≡ Refused
-      not-shortest e = read-long 2 s at (some-byte 1) within more _ _ second e
+      not-shortest e = read-padded 2 s at (some-byte 1) within more _ _ second e
 
       pub two-bytes : (getD s (at + 1) 0 ≡ 0 → ⊥) → readAt 2 s at ≡ Value (getD s at 0 - 128 + 128 * getD s (at + 1) 0) (at + 1 + 1)
       two-bytes e = read-value 2 s at (some-byte 1) within more _ _ second e
@@ -120,7 +112,7 @@ module _ (k : ℕ) (s : List ℕ) (at : ℕ) (some : k ≡ 0 → ⊥) (stands : 
 
     pub known-value :
         (v next : ℕ) → readAt (k - 1) s (at + 1) ≡ Value v next → readAt k s at ≡ Value (getD s at 0 - 128 + 128 * v) next
-    known-value v next e = read-value k s at some known-first more v next e (λ z. stands (read-long k s at some known-first more v next e z))
+    known-value v next e = read-value k s at some known-first more v next e (λ z. stands (read-padded k s at some known-first more v next e z))
 
 -- The last byte that a number may take ends it.
 pub known-last : (s : List ℕ) (at : ℕ) → Stands 1 s at → getD s at 0 < 128

@@ -1,6 +1,5 @@
 // Canonical LEB128 numbers in slices, read at a position. The layout is that of specs/Number.antt in crate `number`.
 ghost use mathlib.Core.Path.{_≡_};
-ghost use Prim.Native.Nat.{_≤_};
 ghost use Rattle.leb128.specs.Positions.{readAt, Stands};
 ghost use Rattle.leb128.specs.declared.Number.the-variants.{Value};
 
@@ -16,33 +15,6 @@ pub enum Number {
 pub struct Known {
     pub value: u32,
     pub next: usize,
-}
-
-// The number of at most `most` bytes that stands at `at`.
-pub fn read(s: &[u8], at: usize, most: u32) -> Number
-    requires { ⌜ most ≤ 4 ⌝ }
-    ensures { λ r. ⌜ r ≡ readAt most (now (s .entry)) at ⌝ }
-{
-    if most == 0 {
-        return Number::Refused;
-    }
-    if s.len() <= at {
-        return Number::Refused;
-    }
-    let b = s[at] as u32;
-    if b < 128 {
-        return Number::Value(b, at + 1);
-    }
-    let rest = read(s, at + 1, most - 1);
-    match rest {
-        Number::Value(v, next) => {
-            if v == 0 {
-                return Number::Refused;
-            }
-            Number::Value(b - 128 + 128 * v, next)
-        }
-        Number::Refused => Number::Refused,
-    }
 }
 
 // The number of at most two bytes that stands at `at`.
@@ -70,7 +42,7 @@ fn read_two(bytes: &[u8], at: usize) -> Number
     Number::Value(low - 128 + 128 * high, second + 1)
 }
 
-// The number of at most three bytes that stands at `at`: the same as `read`, without a call for each byte.
+// The number of at most three bytes that stands at `at`: a byte, and behind it one of at most two.
 pub fn read_short(bytes: &[u8], at: usize) -> Number
     ensures { λ r. ⌜ r ≡ readAt 3 (now (bytes .entry)) at ⌝ }
 {
@@ -91,7 +63,7 @@ pub fn read_short(bytes: &[u8], at: usize) -> Number
     Number::Value(first - 128 + 128 * upper, next)
 }
 
-// The number of at most four bytes that stands at `at`: the same as `read`, without a call for each byte.
+// The number of at most four bytes that stands at `at`.
 pub fn read_long(bytes: &[u8], at: usize) -> Number
     ensures { λ r. ⌜ r ≡ readAt 4 (now (bytes .entry)) at ⌝ }
 {

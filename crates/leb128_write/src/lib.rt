@@ -7,20 +7,7 @@ ghost use lib.ListN.{length};
 ghost use lib.Seq.{sets};
 ghost use Rattle.number.specs.Number.{encode};
 
-// How many bytes `x` takes.
-pub fn size(x: u32, most: u32) -> usize
-    ensures { λ r. ⌜ r ≡ length (encode most x) ⌝ }
-{
-    if most == 0 {
-        return 0;
-    }
-    if x < 128 {
-        return 1;
-    }
-    1 + size(x / 128, most - 1)
-}
-
-// How many bytes `x` takes, of at most three: the same as `size`, without a call for each byte.
+// How many bytes `x` takes, of at most three.
 pub fn size_short(x: u32) -> usize
     ensures { λ r. ⌜ r ≡ length (encode 3 x) ⌝ }
 {
@@ -43,23 +30,6 @@ pub fn size_long(x: u32) -> usize
     1 + size_short(x / 128)
 }
 
-// Puts `x` at `at` and gives the position behind it.
-pub fn write(area: &mut [u8], at: usize, x: u32, most: u32) -> usize
-    requires { ⌜ at + length (encode most x) ≤ length (now area) ⌝ }
-    ensures next { λ r. ⌜ r ≡ at + length (encode most x) ⌝ }
-    ensures area { λ r. ⌜ now (area .exit) ≡ sets (now (area .entry)) at (encode most x) ⌝ }
-{
-    if most == 0 {
-        return at;
-    }
-    if x < 128 {
-        area[at] = x as u8;
-        return at + 1;
-    }
-    area[at] = (x % 128 + 128) as u8;
-    write(area, at + 1, x / 128, most - 1)
-}
-
 // The last byte of at most one.
 fn last_byte(x: u32) -> u8
     ensures { λ r. ⌜ encode 1 x ≡ r ∷ [] ⌝ }
@@ -70,7 +40,7 @@ fn last_byte(x: u32) -> u8
     (x % 128 + 128) as u8
 }
 
-// Puts `x` at `at` in at most two bytes.
+// Puts `x` at `at` in at most two bytes and gives the position behind it.
 fn write_two(area: &mut [u8], at: usize, x: u32) -> usize
     requires { ⌜ at + length (encode 2 x) ≤ length (now area) ⌝ }
     ensures next { λ r. ⌜ r ≡ at + length (encode 2 x) ⌝ }
@@ -86,7 +56,7 @@ fn write_two(area: &mut [u8], at: usize, x: u32) -> usize
     second + 1
 }
 
-// Puts `x` at `at` in at most three bytes: the same as `write`, without a call for each byte.
+// Puts `x` at `at` in at most three bytes: a byte, and behind it the rest in at most two.
 pub fn write_short(area: &mut [u8], at: usize, x: u32) -> usize
     requires { ⌜ at + length (encode 3 x) ≤ length (now area) ⌝ }
     ensures next { λ r. ⌜ r ≡ at + length (encode 3 x) ⌝ }

@@ -9,9 +9,6 @@ pub const MOST_EDGES: u32 = 256;
 
 pub const MOST_COUNT: usize = MOST_EDGES as usize;
 
-// The bytes of the step count.
-pub const STEP_BYTES: u32 = 4;
-
 // The largest number of a job; the same as a list's length, and the first length above it.
 pub const MOST_NUMBER: u32 = 2097151;
 

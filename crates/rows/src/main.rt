@@ -187,7 +187,7 @@ fn answer_long(name: &[u8], frame: &[u8], area: &mut [u8]) {
 
 // The total that an answer names.
 fn show_total(name: &[u8], answer: &[u8]) {
-    let steps = leb128::read(answer, 0, limits::STEP_BYTES);
+    let steps = leb128::read_long(answer, 0);
     match steps {
         Number::Value(total, _) => {
             print_number(name, total);

@@ -43,11 +43,11 @@ whole s =
 abbrev Done : tie.Start → List ℕ → ℕ → List ℕ → Type 0
 Done s bytes next area = Put (s .args .area .now) (s .args .at) bytes next area
 
-abbrev start1 : tie.After-write → tie.Start
+abbrev start1 : tie.After-write-long → tie.Start
 start1 w = w .before .before .before
 
-put1 : (w : tie.After-write) → Done (start1 w) (steps (start1 w)) (w .write .result) (w .write .last .0)
-put1 w = record { next = w .write .ensures .0; area = w .write .ensures .1 }
+put1 : (w : tie.After-write-long) → Done (start1 w) (steps (start1 w)) (w .write-long .result) (w .write-long .last .0)
+put1 w = record { next = w .write-long .ensures .0; area = w .write-long .ensures .1 }
 
 abbrev start2 : tie.After-write-numbers → tie.Start
 start2 w = start1 (w .before .before .before .before .before)
@@ -61,8 +61,8 @@ start3 w = start2 (w .before .before .before .before)
 put3 : (w : tie.After-write-short) → let s = start3 w in Done s (steps s ++ costs s ++ count s) (w .write-short .result) (w .write-short .last .0)
 put3 w = put-more _ _ _ _ _ _ _ _ (put2 (w .before .before .before .before)) (w .write-short .ensures .0) (w .write-short .ensures .1)
 
-write-requires : tie.Need-write-requires
-write-requires c κs = omega (arith, whole (c .before .before))
+write-long-requires : tie.Need-write-long-requires
+write-long-requires c κs = omega (arith, whole (c .before .before))
 
 write-numbers-requires : tie.Need-write-numbers-requires
 write-numbers-requires c κs =
@@ -102,7 +102,7 @@ pub put-answer-spec : {M : Type 1} → statement M
 put-answer-spec =
     tie.close
     (tie.spec
-    write-requires
+    write-long-requires
     write-numbers-requires
     cast-write-short
     write-short-requires

@@ -35,13 +35,13 @@ part-is : (f : tie.After-steps) → part-of f ≡ drop (behind-of f) (frame-of f
 part-is f = take-all (length (frame-of f) - behind-of f) (drop (behind-of f) (frame-of f)) (omega (arith, length-drop (behind-of f) (frame-of f)))
 
 steps : (f : tie.After-steps) → readAt stepBytes (frame-of f) 0 ≡ Value (value-of f) (behind-of f)
-steps f = sym (f .before .before .read .ensures) ∙ f .steps .given .1
+steps f = sym (f .before .before .read-long .ensures) ∙ f .steps .given .1
 
 abbrev steps-of : tie.After-skip2 → tie.After-steps
 steps-of c = c .before .before .before .before
 
-read-requires : tie.Need-read-requires
-read-requires c κs = search needs
+read-long-requires : tie.Need-read-long-requires
+read-long-requires c κs = search needs
 
 enum-known-steps : tie.Need-enum-known-steps
 enum-known-steps c = search needs
@@ -50,7 +50,7 @@ enum-told : tie.Need-enum-told
 enum-told c = search needs
 
 returns : tie.Need-returns
-returns c = (λ k. absurd (steps-found _ _ k (sym (c .before .before .read .ensures) ∙ c .enum-told .given .1)), omega arith)
+returns c = (λ k. absurd (steps-found _ _ k (sym (c .before .before .read-long .ensures) ∙ c .enum-told .given .1)), omega arith)
 
 sub-part : tie.Need-sub-part
 sub-part c = steps-within _ _ _ (steps (c .before))
@@ -99,7 +99,7 @@ pub cost-part-spec : {M : Type 1} → statement M
 cost-part-spec =
     tie.close
     (tie.spec
-    read-requires
+    read-long-requires
     enum-known-steps
     enum-told
     returns

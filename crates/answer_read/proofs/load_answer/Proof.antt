@@ -37,7 +37,7 @@ bytes f i = f .before .before .before .shared-slice-known .given i .fits
 
 -- the steps, and the count of the numbers behind them
 steps : (f : tie.After-first) → readAt stepBytes (frame-of f) 0 ≡ Value (f .first .given .0 .0) (f .first .given .0 .1 .0)
-steps f = sym (f .before .before .read .ensures) ∙ f .first .given .1
+steps f = sym (f .before .before .read-long .ensures) ∙ f .first .given .1
 
 abbrev first-of : tie.After-numbers → tie.After-first
 first-of n = n .before .before .before .before .before
@@ -45,8 +45,8 @@ first-of n = n .before .before .before .before .before
 counted : (n : tie.After-numbers) → countFrom 0 (numbers (part-of (first-of n))) ≡ Count (n .numbers .given .0 .0)
 counted n = sym (n .before .before .count-numbers .ensures) ∙ n .numbers .given .1
 
-read-requires : tie.Need-read-requires
-read-requires c κs = search needs
+read-long-requires : tie.Need-read-long-requires
+read-long-requires c κs = search needs
 
 enum-known-first : tie.Need-enum-known-first
 enum-known-first c = search needs
@@ -58,7 +58,7 @@ no-contents-requires : tie.Need-no-contents-requires
 no-contents-requires c κs = search needs
 
 returns : tie.Need-returns
-returns c = no-answer _ _ _ _ _ (c .no-contents .ensures) (answer-unread _ _ (sym (c .before .before .before .read .ensures) ∙ c .before .enum-told .given .1))
+returns c = no-answer _ _ _ _ _ (c .no-contents .ensures) (answer-unread _ _ (sym (c .before .before .before .read-long .ensures) ∙ c .before .enum-told .given .1))
 
 sub-part : tie.Need-sub-part
 sub-part c = steps-within _ _ _ (steps (c .before))
@@ -169,7 +169,7 @@ pub load-answer-spec : {M : Type 1} → statement M
 load-answer-spec =
     tie.close
     (tie.spec
-    read-requires
+    read-long-requires
     enum-known-first
     enum-told
     no-contents-requires

@@ -17,7 +17,7 @@ more k = omega (arith, k .if1 .left)
 upper : (k : tie.After-known-two) → k .known-two .result .value < 128 ^ 2
 upper k =
     let e = k .before in
-    read-bound 2 2 (e .before .before .before .args .bytes .now) (e .before .before .before .args .at + 1) _ _ (omega arith)
+    read-bound 2 (e .before .before .before .args .bytes .now) (e .before .before .before .args .at + 1) _ _
     (λ i. e .before .shared-slice-known2 .given i .fits) (k .known-two .ensures)
 
 shared-slice-read-first : tie.Need-shared-slice-read-first

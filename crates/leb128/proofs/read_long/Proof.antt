@@ -5,7 +5,7 @@ use mathlib.Core.Path.{_≡_, sym, _∙_}
 use lib.ListN.{length, getD}
 use Rattle.leb128.specs.Positions.{readAt}
 use Rattle.leb128.specs.declared.Number.the-variants.{Value}
-use Rattle.leb128.proofs.Steps.{some-byte, read-end, read-last, read-refused, read-long, read-value, read-bound}
+use Rattle.leb128.proofs.Steps.{some-byte, read-end, read-last, read-refused, read-padded, read-value, read-bound}
 use borrow.Author.Needs.{needs}
 use Rattle.leb128.proofs.read_long.Statement.{statement}
 use Rattle.leb128.proofs.read_long.Tie as tie
@@ -66,14 +66,14 @@ upper : (r : tie.After-rest) → r .rest .given .0 .0 < 128 ^ 3
 upper r =
     let k = r .before .before .before .before in
     let a = k .before .before .before .args in
-    read-bound 3 3 (a .bytes .now) (a .at + 1) _ _ (omega arith) (λ i. k .shared-slice-known2 .given i .fits) (found r)
+    read-bound 3 (a .bytes .now) (a .at + 1) _ _ (λ i. k .shared-slice-known2 .given i .fits) (found r)
 
 returns-4 : tie.Need-returns-4
 returns-4 c =
     let r = c .before .before in
     let e = r .before .before .before in
     let a = e .before .before .before .before .args in
-    sym (read-long 4 (a .bytes .now) (a .at) (some-byte 3) (within e) (more e) _ _ (found r) (c .if3 .taken))
+    sym (read-padded 4 (a .bytes .now) (a .at) (some-byte 3) (within e) (more e) _ _ (found r) (c .if3 .taken))
 
 mul-t13 : tie.Need-mul-t13
 mul-t13 c = omega (arith, upper (c .before .before))
