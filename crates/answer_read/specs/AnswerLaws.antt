@@ -28,7 +28,7 @@ use Rattle.frame.specs.Meaning.{Divides}
 use Rattle.frame.specs.Division.{division}
 use Rattle.codec.specs.declared.Taken.{Taken}
 use Rattle.division.specs.declared.Numbers.the-variants.{Count, Refused}
-use Rattle.codec.specs.Numbers.{takenAt, numbersAt, Loaded, loadedAt, loaded}
+use Rattle.codec.specs.Numbers.{takenAt, numbersAt, Divided, Loaded, loadedAt, loaded}
 use Rattle.codec.specs.ListLaws.{numbers-put, load-numbers}
 use Rattle.codec.specs.Held.{pairsAt, answerAt}
 use Rattle.division.specs.Counting.{countFrom}
@@ -103,6 +103,10 @@ module _ (m : ℕ) (s : List ℕ) (h : Bytes s) (v next : ℕ) (e : readAt stepB
     pub read-short : total ≤ m → few (readAnswer m s) ≡ none
     read-short l = answer-wrong-size (λ n. omega (arith, size))
 
+    -- The costs stand in front.
+    pub costs-divided : m < total → Divided part 0 m
+    costs-divided l = record { ns = ns; enough = omega (arith, size); within = omega arith; rest = divides }
+
     -- The costs are in their array, and the number behind them has been read.
     module _ (long : m < total) (at : ℕ) (cs cs′ : List ℕ) (read-costs : loadedAt at cs′ ≡ loaded part 0 m cs) (c : Taken) (p : c ≡ takenAt part at) where
       costs-read : loadedAt at cs′ ≡ loadedAt (0 + length (bytesOf (take m ns))) (sets cs 0 (take m ns))
@@ -132,6 +136,17 @@ module _ (m : ℕ) (s : List ℕ) (h : Bytes s) (v next : ℕ) (e : readAt stepB
 
       pub answer-wrong : (total ≡ m + 1 + 2 * c .value → ⊥) → few (readAnswer m s) ≡ none
       answer-wrong n = answer-wrong-size (λ k. n (omega (arith, size, count-read)))
+
+      -- The pairs stand behind the costs and their count.
+      pub pairs-divided : total ≡ m + 1 + 2 * c .value → (k : ℕ) → k ≤ 2 * c .value → Divided part (c .next) k
+      pairs-divided right k l =
+          let there : c .next ≡ after .next = ap (λ (t : Taken). t .next) (p ∙ after .here) in
+          record {
+            ns = drop (suc m) ns;
+            enough = omega (arith, right, size, length-drop (suc m) ns);
+            within = omega (arith, there, after .within);
+            rest = rw there (after .rest);
+          }
 
       -- The pairs are in theirs.
       module _ (right : total ≡ m + 1 + 2 * c .value) (most : c .value ≤ 64) (last : ℕ) (ps ps′ : List ℕ)

@@ -3,7 +3,7 @@ ghost use mathlib.Core.Path.{_≡_};
 ghost use Prim.Native.Nat.{_+_, _≤_};
 ghost use lib.ListN.{length};
 ghost use Rattle.frame.specs.Job.{bytesOf};
-ghost use Rattle.codec.specs.Numbers.{takenAt, skipped, numbersAt, Put, loadedAt, loaded, refusedReply};
+ghost use Rattle.codec.specs.Numbers.{takenAt, skipped, numbersAt, Put, Divided, loadedAt, loaded, refusedReply};
 use leb128::Number;
 
 // A number and the position behind it.
@@ -91,15 +91,17 @@ pub fn write_numbers(area: &mut [u8], at: usize, values: &[u32], count: usize) -
     next
 }
 
-// Reads so many numbers from a position on, each into its place, and gives the position behind them.
+// Reads so many numbers from a position on, each into its place, and gives the position behind them. They are known to stand
+// there, and are read without tests.
 pub fn read_numbers(s: &[u8], at: usize, values: &mut [u32], count: usize) -> usize
-    requires { ⌜ count ≤ length (now values) ⌝ }
+    requires places { ⌜ count ≤ length (now values) ⌝ }
+    requires numbers { ⌜ Divided (now s) at count ⌝ }
     ensures { λ r. ⌜ loadedAt r (now (values .exit)) ≡ loaded (now (s .entry)) at count (now (values .entry)) ⌝ }
 {
     let mut next = at;
     let mut i: usize = 0;
     while i < count {
-        let n = number_at(s, next);
+        let n = leb128::read_known(s, next);
         values[i] = n.value;
         next = n.next;
         i += 1;

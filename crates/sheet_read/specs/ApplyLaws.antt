@@ -26,7 +26,7 @@ use Rattle.frame.specs.Division.{division}
 use Rattle.division.specs.declared.Numbers.the-variants as Counted
 use Rattle.division.specs.Counting.{countFrom}
 use Rattle.division.specs.CountingLaws.{counted-some, counted-none}
-use Rattle.codec.specs.Numbers.{numbersAt, Loaded, loadedAt, loaded}
+use Rattle.codec.specs.Numbers.{numbersAt, Divided, Loaded, loadedAt, loaded}
 use Rattle.codec.specs.ListLaws.{numbers-put, load-numbers}
 use Rattle.sheet.specs.Sheet.{InRange}
 use Rattle.sheet.specs.Reading as Model
@@ -234,6 +234,11 @@ module _ (m : ℕ) (s : List ℕ) where
     costs-wrong n =
         let (ns, divided, size) = counted-some (numbers s) total q in
         rw (divided, ne-eqb (length ns) m (λ e. n (sym size ∙ e)))
+
+    pub costs-stand : Bytes s → total ≡ m → Divided s 0 m
+    costs-stand h e =
+        let (ns, divided, size) = counted-some (numbers s) total q in
+        record { ns = ns; enough = omega (arith, size, e); within = omega arith; rest = division s ns h .0 divided }
 
     pub costs-read :
         Bytes s → total ≡ m → (at : ℕ) (xs xs′ : List ℕ) → m ≤ length xs → loadedAt at xs′ ≡ loaded s 0 m xs → some (numbersAt m xs′) ≡ readCosts m s

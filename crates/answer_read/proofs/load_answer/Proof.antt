@@ -17,7 +17,7 @@ use Rattle.frame.specs.Questions.{numbers}
 use Rattle.division.specs.declared.Numbers.the-variants.{Count}
 use Rattle.division.specs.Counting.{countFrom}
 use Rattle.answer_read.specs.AnswerLaws.{steps-within, answer-unread, answer-undivided, read-short, answer-many}
-use Rattle.answer_read.specs.AnswerLaws.{answer-wrong, answer-read, answer-kept, no-answer}
+use Rattle.answer_read.specs.AnswerLaws.{answer-wrong, answer-read, answer-kept, no-answer, costs-divided, pairs-divided}
 
 -- the frame and the part behind the steps
 abbrev frame-of : tie.After-first → List ℕ
@@ -98,7 +98,13 @@ returns-3 c =
     (read-short _ _ (bytes (first-of n)) _ _ (steps (first-of n)) (part-of (first-of n)) (part-is (first-of n)) _ (counted n) (c .before .if1 .taken))
 
 read-numbers-requires : tie.Need-read-numbers-requires
-read-numbers-requires c κs = search needs
+read-numbers-requires c κs =
+    let n = c .before .before .before in
+    let f = first-of n in
+    let s = f .before .before .before .before in (
+      omega (arith, s .pre .0, s .pre .1 .costs),
+      costs-divided _ _ (bytes f) _ _ (steps f) (part-of f) (part-is f) _ (counted n) (c .before .if1 .left),
+    )
 
 number-at-requires : tie.Need-number-at-requires
 number-at-requires c κs = search needs
@@ -143,7 +149,17 @@ mul-read-numbers : tie.Need-mul-read-numbers
 mul-read-numbers c = search needs
 
 read-numbers-requires-2 : tie.Need-read-numbers-requires-2
-read-numbers-requires-2 c κs = search needs
+read-numbers-requires-2 c κs =
+    let e = c .before in
+    let k = e .before .before .before .before in
+    let r = k .before in
+    let n = r .before .before .before .before in
+    let f = first-of n in
+    let s = f .before .before .before .before in (
+      omega (arith, s .pre .1 .pairs, e .before .before .if2 .left),
+      pairs-divided _ _ (bytes f) _ _ (steps f) (part-of f) (part-is f) _ (counted n) (r .before .before .if1 .left) _ _ _ (r .read-numbers .ensures)
+          (k .number-at .result) (k .number-at .ensures) (e .if3 .left) _ (omega arith),
+    )
 
 returns-6 : tie.Need-returns-6
 returns-6 c =

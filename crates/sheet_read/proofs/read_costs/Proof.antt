@@ -5,7 +5,7 @@ use Rattle.number.specs.Number.{Bytes}
 use Rattle.division.specs.declared.Numbers.the-variants.{Count}
 use Rattle.division.specs.Counting.{countFrom}
 use Rattle.frame.specs.Questions.{numbers}
-use Rattle.sheet_read.specs.ApplyLaws.{costs-undivided, costs-wrong, costs-read}
+use Rattle.sheet_read.specs.ApplyLaws.{costs-undivided, costs-wrong, costs-stand, costs-read}
 use borrow.Author.Needs.{needs}
 use Rattle.sheet_read.proofs.read_costs.Statement.{statement}
 use Rattle.sheet_read.proofs.read_costs.Tie as tie
@@ -14,6 +14,10 @@ use Rattle.sheet_read.proofs.read_costs.Tie as tie
 counted :
     (n : tie.After-numbers) → countFrom 0 (numbers (n .before .before .before .before .args .frame .now)) ≡ Count (n .numbers .given .0 .0)
 counted n = sym (n .before .before .count-numbers .ensures) ∙ n .numbers .given .1
+
+-- they are bytes
+bytes : (n : tie.After-numbers) → Bytes (n .before .before .before .before .args .frame .now)
+bytes n i = n .before .before .before .shared-slice-known .given i .fits
 
 count-numbers-requires : tie.Need-count-numbers-requires
 count-numbers-requires c κs = search needs
@@ -37,15 +41,20 @@ returns-2 c =
     costs-wrong (a .edges) (a .frame .now) (n .numbers .given .0 .0) (counted n) (c .if1 .taken)
 
 read-numbers-requires : tie.Need-read-numbers-requires
-read-numbers-requires c κs = search needs
+read-numbers-requires c κs =
+    let e = c .before in
+    let n = e .before .before in
+    let s = n .before .before .before .before in (
+      omega (arith, s .pre),
+      costs-stand (s .args .edges) (s .args .frame .now) (n .numbers .given .0 .0) (counted n) (bytes n) (e .if1 .left),
+    )
 
 returns-3 : tie.Need-returns-3
 returns-3 c =
     let e = c .before .before in
     let n = e .before .before in
     let s = n .before .before .before .before in
-    let bytes : Bytes (s .args .frame .now) = λ i. n .before .before .before .shared-slice-known .given i .fits in
-    costs-read (s .args .edges) (s .args .frame .now) (n .numbers .given .0 .0) (counted n) bytes (e .if1 .left) _ (s .args .costs .now) _
+    costs-read (s .args .edges) (s .args .frame .now) (n .numbers .given .0 .0) (counted n) (bytes n) (e .if1 .left) _ (s .args .costs .now) _
     (omega (arith, s .pre)) (c .read-numbers .ensures)
 
 pub read-costs-spec : {M : Type 1} → statement M
