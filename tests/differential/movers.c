@@ -107,25 +107,17 @@ static uint32_t tries(int refusal, uint32_t kinds)
     return refusal != 0 ? 1 : thorough ? kinds : TRIED;
 }
 
-static void check_some_costs(int refusal, const struct job *job)
+typedef size_t vary_bytes(uint32_t which, const struct job *job, uint8_t *to);
+typedef void check_bytes(int refusal, const struct job *job, const uint8_t *bytes, size_t length);
+
+static void check_some(int refusal, const struct job *job, uint32_t kinds, vary_bytes *vary, check_bytes *check)
 {
-    static uint8_t costs[SHEET_ROOM];
-    uint32_t tried = tries(refusal, costs_variations);
+    static uint8_t bytes[SHEET_ROOM];
+    uint32_t tried = tries(refusal, kinds);
 
     for (uint32_t i = 0; i < tried; i++) {
-        size_t length = vary_costs(tried == costs_variations ? i : pick(costs_variations), job, costs);
-        check_costs(refusal, job, costs, length);
-    }
-}
-
-static void check_some_sheets(int refusal, const struct job *job)
-{
-    static uint8_t sheet[SHEET_ROOM];
-    uint32_t tried = tries(refusal, sheet_variations);
-
-    for (uint32_t i = 0; i < tried; i++) {
-        size_t length = vary_sheet(tried == sheet_variations ? i : pick(sheet_variations), job, sheet);
-        check_sheet(refusal, job, sheet, length);
+        size_t length = vary(tried == kinds ? i : pick(kinds), job, bytes);
+        check(refusal, job, bytes, length);
     }
 }
 
@@ -133,6 +125,6 @@ void check_moves(int refusal, const struct given *given)
 {
     if (refusal == 0)
         check_answer_costs(given);
-    check_some_costs(refusal, given->job);
-    check_some_sheets(refusal, given->job);
+    check_some(refusal, given->job, costs_variations, vary_costs, check_costs);
+    check_some(refusal, given->job, sheet_variations, vary_sheet, check_sheet);
 }

@@ -103,9 +103,9 @@ module _ (m : ℕ) (s : List ℕ) (h : Bytes s) (v next : ℕ) (e : readAt stepB
     pub read-short : total ≤ m → few (readAnswer m s) ≡ none
     read-short l = answer-wrong-size (λ n. omega (arith, size))
 
-    -- The costs stand in front.
-    pub costs-divided : m < total → Divided part 0 m
-    costs-divided l = record { ns = ns; enough = omega (arith, size); within = omega arith; rest = divides }
+    -- So many numbers stand in front.
+    pub costs-divided : (k : ℕ) → k ≤ total → Divided part 0 k
+    costs-divided k l = record { ns = ns; enough = omega (arith, size); within = omega arith; rest = divides }
 
     -- The costs are in their array, and the number behind them has been read.
     module _ (long : m < total) (at : ℕ) (cs cs′ : List ℕ) (read-costs : loadedAt at cs′ ≡ loaded part 0 m cs) (c : Taken) (p : c ≡ takenAt part at) where

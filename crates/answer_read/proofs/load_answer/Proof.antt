@@ -103,7 +103,7 @@ read-numbers-requires c κs =
     let f = first-of n in
     let s = f .before .before .before .before in (
       omega (arith, s .pre .0, s .pre .1 .costs),
-      costs-divided _ _ (bytes f) _ _ (steps f) (part-of f) (part-is f) _ (counted n) (c .before .if1 .left),
+      costs-divided (s .args .edges) _ (bytes f) _ _ (steps f) (part-of f) (part-is f) _ (counted n) _ (omega (arith, c .before .if1 .left)),
     )
 
 number-at-requires : tie.Need-number-at-requires
