@@ -1,13 +1,14 @@
 -- A job frame accepted into arrays. Definitions only. Assumes nothing.
 use Prim.Native.Nat.{ℕ}
 use mathlib.Core.Path.{_≡_}
+use mathlib.Core.Bool.{Bool, true, false}
 use mathlib.Core.List.{List}
 use lib.ListN.{length}
 use Rattle.number.specs.Number.{Bytes}
 use Rattle.frame.specs.Job.{Job}
 use Rattle.frame.specs.Arrays.{Arrays}
 use Rattle.frame.specs.Questions.{jobOf, ask, question6, refusal}
-use Rattle.held.specs.Held.{Held}
+use Rattle.held.specs.Held.{Stored, Held}
 use Rattle.links.specs.ColumnLaws.{zeros}
 use Rattle.job.specs.declared.Header.{Header}
 use Rattle.job.specs.Reading.{header}
@@ -27,6 +28,11 @@ treeRefusal j = ask (question6 j) 6 λ _. 0
 -- The refusal of questions 1 to 6, or the counts.
 abbrev pub acceptedHeader : List ℕ → Header
 acceptedHeader s = header (refusal s) (jobOf s)
+
+-- What the arrays hold of an accepted job: its tree links by rank and its tree paths with its links, or its links alone.
+abbrev pub Kept : Bool → Job → ℕ → ℕ → Arrays → Type 0
+Kept true j nodes edges a = Held j nodes edges a
+Kept false j nodes edges a = Stored j nodes edges (a .links)
 
 -- The frame s has been asked questions 1 to 6: what they said, and an accepted job in the arrays.
 pub record Asked (s : List ℕ) (h : Header) (a : Arrays) : Type 0 where

@@ -11,27 +11,29 @@ use lib.ListN.{length, getD, take}
 use lib.Seq.{sets, length-sets, getD-take}
 use borrow.Author.Tests.{ne-eqb}
 use Rattle.number.specs.Number.{Bytes}
-use Rattle.loops.specs.TestLaws.{clash}
+use Rattle.loops.specs.TestLaws.{clash, same-test}
 use Rattle.graph.specs.CountLaws.{count-below}
-use Rattle.graph.specs.Rank.{sorted, members, treeRanks}
-use Rattle.graph.specs.RankLaws.{tree-lists}
+use Rattle.graph.specs.Graph.{Graph}
+use Rattle.graph.specs.Rank.{sorted, members, treeRanks, Lists}
+use Rattle.graph.specs.RankLaws.{members-list, tree-lists}
 use Rattle.graph.specs.Paths.{rooted, isTree}
+use Rattle.graph.specs.Tree.{tree-means}
 use Rattle.frame.specs.Job.{JobLink, Job, link, graphOf, treeOf, costOf}
 use Rattle.frame.specs.Arrays.{Columns, Arrays}
 use Rattle.frame.specs.Questions.{ask, jobOf, question4, question5, question6, layoutRefusal, jobRefusal}
-use Rattle.frame.specs.Form.{question4-means, question5-means, two-refused}
+use Rattle.frame.specs.Form.{question4-means, question5-means, question6-means, ends-sound, two-refused}
 use Rattle.frame.specs.Lists.{Listed, ask-passed, small-job, counted-limits}
 use Rattle.frame.specs.Accepted.{laid-job, listed-accepted, cost-small}
 use Rattle.adjacency.specs.Words.{RankedEnds}
 use Rattle.paths.specs.Arrays.{arrayGraph, Walked}
-use Rattle.ranks.specs.Keys.{treeList, SmallCosts}
+use Rattle.ranks.specs.Keys.{inTree, treeList, treeEdges, SmallCosts}
 use Rattle.job.specs.Reading.{filled}
 use Rattle.links.specs.Columns.{firsts, seconds, costs, marks, linksRefusal, Places}
 use Rattle.links.specs.ColumnLaws.{column-held, length-zeros}
 use Rattle.links.specs.ListLaws.{list-links}
-use Rattle.held.specs.Held.{Stored, Held}
+use Rattle.held.specs.Held.{Stored}
 use Rattle.held.specs.HeldLaws.{graph-stored, stored-job}
-use Rattle.accept.specs.Accepting.{Empty, treeRefusal}
+use Rattle.accept.specs.Accepting.{Empty, treeRefusal, Kept}
 
 abbrev placesOf : List ℕ → ℕ → ℕ
 placesOf l e = getD l e 0
@@ -79,6 +81,12 @@ stored s z c nodes edges b none empty full pn pm =
           column-held (λ (l : JobLink). l .mark) refl 256 ls few;
     }
 
+-- The first places of an array list the job's tree links, each once, in any order.
+pub record TreeListed (j : Job) (count : ℕ) (ts : List ℕ) : Type 0 where
+  pub lists : Lists (length (j .links)) (treeOf j) (take count ts)
+  pub size : count ≡ length (take count ts)
+  pub places : length ts ≡ 256
+
 -- Of a job that passes questions 1 to 5, question 6 decides.
 tree-asked : {j : Job} → Listed j → treeRefusal j ≡ jobRefusal j
 tree-asked {j} f = rw (question4-means j .1 (f .ends), question5-means j .1 (f .marks))
@@ -110,7 +118,7 @@ module _ {j : Job} {n m : ℕ} {c : Columns} (k : Stored j n m c) where
         let y₅ = ask-passed (question5 j) 4 (λ _. 0) rest .0 in
         record { small = k .small; counted = k .counted; ends = question4-means j .0 y₄; marks = question5-means j .0 y₅ }
 
-  -- The tree edges by rank.
+  -- Tree edges by rank, as the code lists them, and in the order of their numbers.
   byRank : ℕ → (ℕ → ℕ) → (ℕ → ℕ) → List ℕ
   byRank m cost mark = sorted (λ x y. leb (cost y) (cost x)) (members m (λ e. eqb (mark e) 1))
 
@@ -118,36 +126,55 @@ module _ {j : Job} {n m : ℕ} {c : Columns} (k : Stored j n m c) where
   unfolding byRank
   ranks-are = ap₂ (byRank m) (k .cost) (k .mark) ∙ ap (λ (m : ℕ). byRank m (costOf j) (λ e. link j e .mark)) (k .edges-are)
 
-  -- The code's count of tree edges, and its ranks.
-  module _ (f : Listed j) (count : ℕ) (ts : List ℕ) (size : count ≡ length (treeList m (c .cost) (c .mark)))
-      (ranked : take count ts ≡ treeList m (c .cost) (c .mark)) (places : length ts ≡ 256) where
-    ts-are : take count ts ≡ treeRanks (graphOf j) (treeOf j) (costOf j)
-    ts-are = ranked ∙ ranks-are
+  inOrder : ℕ → (ℕ → ℕ) → List ℕ
+  inOrder m mark = members m (λ e. eqb (mark e) 1)
 
-    ts-count : count ≡ length (treeRanks (graphOf j) (treeOf j) (costOf j))
-    ts-count = size ∙ ap length (ranks-are)
+  members-are : members m (inTree (c .mark)) ≡ members (length (j .links)) (treeOf j)
+  unfolding inOrder
+  members-are = ap (inOrder m) (k .mark) ∙ ap (λ (m : ℕ). inOrder m (λ e. link j e .mark)) (k .edges-are)
 
+  pub tree-listed :
+      (ranked : Bool) (count : ℕ) (ts : List ℕ) →
+      count ≡ length (treeEdges ranked m (c .cost) (c .mark)) →
+      take count ts ≡ treeEdges ranked m (c .cost) (c .mark) →
+      length ts ≡ 256 →
+      TreeListed j count ts
+  tree-listed ranked count ts size listed places =
+      record { lists = rw listed (either ranked); size = size ∙ ap length (sym listed); places = places }
+    where
+      either : (ranked : Bool) → Lists (length (j .links)) (treeOf j) (treeEdges ranked m (c .cost) (c .mark))
+      either true = rw ranks-are (tree-lists (graphOf j) (treeOf j) (costOf j))
+      either false = rw members-are (members-list (length (j .links)) (treeOf j))
+
+  -- The code's count of tree edges, and its list of them.
+  module _ (f : Listed j) {count : ℕ} {ts : List ℕ} (t : TreeListed j count ts) where
     pub count-few : count ≤ 256
-    count-few =
-        omega (arith, ts-count, tree-lists (graphOf j) (treeOf j) (costOf j) .size, count-below (length (j .links)) (treeOf j), edges-most, k .edges-are)
+    count-few = omega (arith, t .size, t .lists .size, count-below (length (j .links)) (treeOf j), edges-most, k .edges-are)
+
+    -- Question 6 may be put to any list of them.
+    any-list : question6 j ≡ isTree (graphOf j) (take count ts)
+    any-list =
+        let l = counted-limits j (k .counted) .0 in
+        let by-rank = question6-means j l (f .ends) in
+        let so-listed = tree-means (ends-sound j (f .ends)) (t .lists) l (λ e b t. refl) in
+        same-test _ _ (λ h. so-listed .1 (by-rank .0 h)) (λ h. by-rank .1 (so-listed .0 h))
 
     -- Another number of tree edges than it should be.
     question-wrong : (count + 1 ≡ n → ⊥) → question6 j ≡ false
-    unfolding question6
-    question-wrong w = rw (← ts-count, ne-eqb (suc count) (j .nodes) (λ q. w (omega (arith, q, k .nodes-are))))
+    question-wrong w = any-list ∙ rw (← t .size, ne-eqb (suc count) (j .nodes) (λ q. w (omega (arith, q, k .nodes-are))))
 
     module _ (right : count + 1 ≡ n) where
       rank-edge : (i : ℕ) → i < count → getD ts i 0 < length (j .links)
       rank-edge i l =
-          let in-list = tree-lists (graphOf j) (treeOf j) (costOf j) .below i (omega (arith, ts-count)) in
-          subst (λ (e : ℕ). e < length (j .links)) (ap (λ (r : List ℕ). getD r i 0) (sym ts-are) ∙ getD-take count ts i 0 l) in-list
+          let in-list = t .lists .below i (omega (arith, t .size)) in
+          subst (λ (e : ℕ). e < length (j .links)) (getD-take count ts i 0 l) in-list
 
       pub tree-ranked : RankedEnds n count ts (c .end₁) (c .end₂)
       tree-ranked =
           record {
             small = nodes-few;
             few = omega (arith, right, nodes-few);
-            within = omega (arith, count-few, places);
+            within = omega (arith, count-few, t .places);
             edge = λ i l. omega (arith, rank-edge i l, edges-most, k .edges-are);
             first = λ i l. omega (arith, ap (λ (f : ℕ → ℕ). f (getD ts i 0)) (k .end₁), f .ends .first (getD ts i 0) (rank-edge i l), k .nodes-are);
             second = λ i l. omega (arith, ap (λ (f : ℕ → ℕ). f (getD ts i 0)) (k .end₂), f .ends .second (getD ts i 0) (rank-edge i l), k .nodes-are);
@@ -156,8 +183,7 @@ module _ {j : Job} {n m : ℕ} {c : Columns} (k : Stored j n m c) where
     -- Whether they join all stations.
     module _ (r : Bool) (said : (edges : ℕ) → r ≡ isTree (arrayGraph n edges (c .end₁) (c .end₂)) (take count ts)) where
       tree-answer : r ≡ question6 j
-      unfolding question6
-      tree-answer = said m ∙ ap₂ isTree (graph-stored k) ts-are
+      tree-answer = said m ∙ ap (λ (g : Graph). isTree g (take count ts)) (graph-stored k) ∙ sym any-list
 
       pub tree-wrong : r ≡ false → 6 ≡ jobRefusal j
       tree-wrong w =
@@ -175,13 +201,18 @@ module _ {j : Job} {n m : ℕ} {c : Columns} (k : Stored j n m c) where
         pub tree-right : 0 ≡ jobRefusal j
         tree-right = let none : 0 ≡ treeRefusal j = rw tree-yes in none ∙ tree-asked f
 
-        pub tree-held : (mask : List ℕ) → Walked n count ts (c .end₁) (c .end₂) n mask → Held j n m (record { links = c; ranks = ts; mask = mask })
-        tree-held mask w =
+        -- Listed by rank, they are held with their paths.
+        pub tree-kept :
+            (ranked : Bool) → take count ts ≡ treeEdges ranked m (c .cost) (c .mark)
+            → (mask : List ℕ) → Walked n count ts (c .end₁) (c .end₂) n mask → Kept ranked j n m (record { links = c; ranks = ts; mask = mask })
+        tree-kept true listed mask w =
             let last : n - 1 ≡ count = omega (arith, count-right) in
+            let ts-are = listed ∙ ranks-are in
             record {
               stored = k;
               accepted = listed-accepted j f tree-yes;
               ranks = ap (λ (i : ℕ). take i ts) last ∙ ts-are;
-              places = places;
+              places = t .places;
               paths = w .paths m ∙ (λ i. rooted (graph-stored k i) (ts-are i) .path);
             }
+        tree-kept false listed mask w = k

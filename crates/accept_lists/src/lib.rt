@@ -39,7 +39,7 @@ pub fn accept_list(
     if refusal != 0 {
         return refusal;
     }
-    job_refusal(nodes, edges, end1, end2, cost, mark, ts, mask)
+    job_refusal(nodes, edges, end1, end2, cost, mark, ts, mask, true)
 }
 
 // The refusal that is known before a link is looked at: by the word on large numbers and by the counts.

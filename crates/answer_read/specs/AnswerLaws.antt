@@ -13,7 +13,7 @@ use lib.Seq.{sets, sets-eq, length-sets, length-take-le, drop-cons, take-all}
 use borrow.Author.Tests.{eq-eqb, ne-eqb, le-leb, lt-leb}
 use Rattle.loops.specs.Loop.{tabulate}
 use Rattle.loops.specs.TestLaws.{clash}
-use Rattle.loops.specs.GatherLaws.{gather-same, length-tabulate, tabulate-getD}
+use Rattle.loops.specs.GatherLaws.{gather-same, length-tabulate}
 use Rattle.number.specs.Number.{Bytes, decode}
 use Rattle.leb128.specs.Positions.{readAt, located-value, located-refused}
 use Rattle.number.specs.Number.Decoded.{number}

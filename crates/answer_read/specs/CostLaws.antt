@@ -5,7 +5,7 @@ use mathlib.Core.Path.{_≡_, refl, sym, ap, ap₂, subst, _∙_}
 use mathlib.Core.List.{List, [], _∷_, _++_, flatMap, append-nil}
 use lib.ListN.{length, getD, take, drop, length-append, length-drop}
 use lib.Seq.{take-append-le, drop-append-seam}
-use Rattle.number.specs.Number.{encode, decode}
+use Rattle.number.specs.Number.{encode}
 use Rattle.leb128.specs.Positions.{located, readAt}
 use Rattle.leb128.specs.declared.Number.the-variants as Read
 use Rattle.number.specs.Laws.{decode-encode}

@@ -1,5 +1,4 @@
 // Answers a job: the new costs with the fewest steps, and the pairing that proves it, into an area.
-ghost use mathlib.Core.Path.{_≡_};
 ghost use mathlib.Core.Logic.{_≢_};
 ghost use mathlib.Core.List.{List};
 ghost use Prim.Native.Nat.{ℕ};
@@ -74,6 +73,7 @@ pub fn answer(frame: &[u8], area: &mut [u8]) -> Reply
         &mut mark,
         &mut ts,
         &mut mask,
+        true,
     );
     answer_held(
         header,

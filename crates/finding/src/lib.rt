@@ -33,6 +33,7 @@ pub fn locate_link(frame: &[u8], edge: Edge) -> Part
         &mut mark,
         &mut ts,
         &mut mask,
+        false,
     );
     job::link_part(frame, header, edge)
 }
@@ -102,6 +103,7 @@ pub fn locate_cost(frame: &[u8], offered: &[u8], edge: Edge) -> Part
         &mut mark,
         &mut ts,
         &mut mask,
+        true,
     );
     locate_cost_held(
         header,

@@ -184,6 +184,16 @@ later-first s number holds Holds h means = of (refusal s) (first-no s h) means
     of zero f m = ⊎-elim (λ y. rw y (passed f (m refl .0 y))) (λ n. rw n (own f (λ k. clash (m refl .1 k) n))) (truth holds)
     of (suc r) f m = earlier (suc r) (λ e. omega (arith, e)) f
 
+-- Where the six refuse, it is not asked; where nothing was refused, all were passed.
+pub later-refused : (r number : ℕ) (holds : Bool) → (r ≡ 0 → ⊥) → later r holds number ≡ r
+later-refused zero number holds n = absurd (n refl)
+later-refused (suc r) number holds n = refl
+
+pub later-none : (r : ℕ) (holds : Bool) (number : ℕ) → later r holds (suc number) ≡ 0 → (r ≡ 0) × (holds ≡ true)
+later-none zero true number e = (refl, refl)
+later-none zero false number e = absurd (omega (arith, e))
+later-none (suc r) holds number e = absurd (omega (arith, e))
+
 -- There is one first "no" only.
 pub first-no-unique : (s : List ℕ) (r : ℕ) → Bytes s → FirstNo s r → refusal s ≡ r
 first-no-unique s r h (no1 q) = ⊎-elim (λ e. rw e) (λ e. absurd (q (e .0) (division s (e .0) h .0 (e .1)))) (either (numbers s))

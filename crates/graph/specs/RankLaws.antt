@@ -1,7 +1,7 @@
 -- Laws of ranks: they list each member of a set exactly once, in order of cost, and a sum over the set is a sum over
 -- ranks; a list of the same members in the same order is the list of ranks. Assumes nothing.
 use Prim.Native.Nat.{ℕ, zero, suc, _+_, _≤_, _<_}
-use mathlib.Core.Path.{_≡_, refl, ap, sym, _∙_}
+use mathlib.Core.Path.{_≡_, refl, ap, sym, subst, _∙_}
 use mathlib.Core.Logic.{_↔_, _⊎_, inl, inr}
 use mathlib.Core.Bool.{Bool, true, false, cond}
 use mathlib.Core.List.{List, [], _∷_, List·Memᴰ, List·Memᴰ·head, List·Memᴰ·tail, List·Memᴰ·not-nil, List·Memᴰ·cases-cons, List·Memᴰ·eq-of-singleton}
@@ -250,6 +250,19 @@ module _ (before : ℕ → ℕ → Bool) (m : ℕ) (S : EdgeSet) where
       → sum m (λ e. cond (S e) (f e) 0) ≡ sum (length (ranks before m S)) (λ k. f (getD (ranks before m S) k 0))
   ranks-sum f =
       sym (members-sum m S f) ∙ sym (sorted-sum before f (members m S)) ∙ sym (sum-over f 0 (ranks before m S))
+
+-- Listed by number, they are sorted where any may stand in front.
+unsorted : (xs : List ℕ) → sorted (λ _ _. true) xs ≡ xs
+unfolding sorted insert
+unsorted [] = refl
+unsorted (x ∷ xs) = rw (unsorted xs) (front xs)
+  where
+    front : (xs : List ℕ) → insert (λ _ _. true) x xs ≡ x ∷ xs
+    front [] = refl
+    front (y ∷ ys) = refl
+
+pub members-list : (m : ℕ) (S : EdgeSet) → Lists m S (members m S)
+members-list m S = subst (Lists m S) (unsorted (members m S)) (ranks-list (λ _ _. true) m S)
 
 -- Edge x stands in front of edge y: it may, and if y may too, x has the lower number.
 pub record Ahead (May : ℕ → ℕ → Type 0) (x y : ℕ) : Type 0 where

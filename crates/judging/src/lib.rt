@@ -65,6 +65,7 @@ pub fn judge(frame: &[u8]) -> Verdict
         &mut mark,
         &mut ts,
         &mut mask,
+        true,
     );
     judge_held(header, &end1, &end2, &cost, &mark, &ts, &mask)
 }
@@ -116,6 +117,7 @@ pub fn judge_answer(frame: &[u8], offered: &[u8]) -> Verdict
         &mut mark,
         &mut ts,
         &mut mask,
+        true,
     );
     judge_answer_held(header, &end1, &end2, &cost, &mark, &ts, &mask, offered)
 }

@@ -79,6 +79,7 @@ pub fn read_job(frame: &[u8]) -> JobRead
         &mut mark,
         &mut ts,
         &mut mask,
+        false,
     );
     let refusal = header.refusal;
     if refusal != 0 {
@@ -150,6 +151,7 @@ pub fn read_answer(frame: &[u8], offered: &[u8]) -> AnswerRead
         &mut mark,
         &mut ts,
         &mut mask,
+        true,
     );
     let verdict = judge_answer_held(header, &end1, &end2, &cost, &mark, &ts, &mask, offered);
     let Verdict::Yes = verdict else {

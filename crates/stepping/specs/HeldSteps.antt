@@ -1,55 +1,42 @@
 -- The services on step sheets, by the steps of the code: a refusal by the six, one by our own question, and what is written.
 -- Assumes nothing.
-use Prim.Native.Nat.{ℕ, zero, suc, _<_, _≤_}
+use Prim.Native.Nat.{ℕ}
 use native.Mathlib.Omega.{arith}
-use mathlib.Core.Path.{_≡_, refl, sym, ap, ap₂, _∙_}
-use mathlib.Core.Bool.{Bool, true, false}
-use mathlib.Core.List.{List, [], _∷_}
+use mathlib.Core.Path.{_≡_, sym, ap, _∙_}
+use mathlib.Core.Bool.{Bool}
+use mathlib.Core.List.{List, []}
 use mathlib.Core.Option.{Option, some, none, Option·map, Option·getD}
-use lib.ListN.{length, getD}
+use lib.ListN.{getD}
 use Rattle.loops.specs.GatherLaws.{gather-same, getD-tabulate}
 use Rattle.number.specs.Number.{Bytes}
-use Rattle.frame.specs.Job.{bytesOf, costOf}
-use Rattle.frame.specs.Arrays.{Arrays}
-use Rattle.frame.specs.Services.{Outcome, written}
+use Rattle.frame.specs.Job.{Job, bytesOf, costOf}
+use Rattle.frame.specs.Arrays.{Columns}
+use Rattle.frame.specs.Services.{written}
 use Rattle.frame.specs.Questions.{jobOf, refusal, later}
-use Rattle.frame.specs.Accepted.{cost-small}
+use Rattle.frame.specs.Form.{later-refused}
 use Rattle.codec.specs.Numbers.{numbersAt}
 use Rattle.codec.specs.WritingLaws.{put-refused}
 use Rattle.job.specs.declared.Header.{Header}
-use Rattle.accept.specs.Accepting.{Asked}
+use Rattle.held.specs.Held.{Stored}
+use Rattle.accept.specs.Accepting.{acceptedHeader}
 use Rattle.accept.specs.AcceptLaws.{accepted-number}
+use Rattle.accept.specs.ArrayLaws.{edges-most, costs-small}
 use Rattle.sheet.specs.Sheet.{Move, InRange, sheetFrame, movesOf, moveOf, costsFrame}
 use Rattle.sheet.specs.Reading.{isSome, readCosts, applySheet, costsAt, sheetBytes, costsBytes}
 use Rattle.sheet.specs.SheetLaws.{costs-sound}
-use Rattle.stepping.specs.Stepping.{linkCount, sheetFor, costsFor, sheetRefusal, costsRefusal, AskedCosts, HasCosts}
+use Rattle.stepping.specs.Stepping.{linkCount, sheetFor, costsFor, sheetRefusal, costsRefusal, AskedCosts, SomeCosts}
 
 -- ---- an accepted job
 
--- The costs of an accepted job are in the array.
-pub asked-costs : {s : List ℕ} {h : Header} {a : Arrays} → Asked s h a → AskedCosts s h (a .links .cost)
-asked-costs k =
-    record {
-      bytes = k .bytes;
-      header-is = k .header-is;
-      edges = λ z. k .held z .stored .edges-are;
-      costs = λ z. k .held z .stored .cost;
-    }
+-- The costs of a job that was asked questions 1 to 6 and accepted are in the array.
+module _ {h : Header} {c : Columns} where
+  pub asked-costs : (s : List ℕ) → Bytes s → h ≡ acceptedHeader s → (h .refusal ≡ 0 → Stored (jobOf s) (h .nodes) (h .edges) c) → AskedCosts s h (c .cost)
+  asked-costs s b e k = record { bytes = b; header-is = e; edges = λ z. k z .edges-are; costs = λ z. k z .cost }
 
-pub asked-has : {s : List ℕ} {h : Header} {a : Arrays} → Asked s h a → h .refusal ≡ 0 → HasCosts h (a .links .cost)
-asked-has {s} k z =
-    let held = k .held z in
-    record {
-      few = omega (arith, held .stored .edges-are, held .accepted .edge-limit);
-      places = held .stored .cost-places;
-      limit = λ e _. omega (arith, ap (λ (c : ℕ → ℕ). c e) (held .stored .cost), cost-small (jobOf s) (held .accepted .small) e);
-    }
+  pub asked-has : {j : Job} → (h .refusal ≡ 0 → Stored j (h .nodes) (h .edges) c) → SomeCosts h (c .cost)
+  asked-has k z = record { few = edges-most (k z); places = k z .cost-places; limit = costs-small (k z) }
 
 -- ---- our own question
-
-later-refused : (r number : ℕ) (holds : Bool) → (r ≡ 0 → ⊥) → later r holds number ≡ r
-later-refused zero number holds n = absurd (n refl)
-later-refused (suc r) number holds n = refl
 
 asked-not : (r : ℕ) (o : Option (List ℕ)) → r ≡ 0 → o ≡ none → later r (isSome o) 8 ≡ 8
 asked-not r o z e = rw (z, e)

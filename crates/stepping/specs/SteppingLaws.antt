@@ -1,14 +1,13 @@
 -- A reply by the definition keeps what the services on step sheets promise. Assumes nothing.
-use Prim.Native.Nat.{ℕ, zero, suc, _<_, _≤_}
+use Prim.Native.Nat.{ℕ}
 use native.Mathlib.Omega.{arith}
 use native.Mathlib.Decide.{decLt}
 use mathlib.Core.Path.{_≡_, refl, sym, ap, subst, _∙_}
-use mathlib.Core.Bool.{Bool, true, false}
-use mathlib.Core.List.{List, [], _∷_, _++_}
+use mathlib.Core.Bool.{true}
+use mathlib.Core.List.{List, [], _++_}
 use mathlib.Core.Option.{Option, some, none, Option·getD}
 use lib.IntN.{pos, natAbs, _-ℤ_}
-use lib.ListN.{length, getD, take, List·getD-append, List·getD-eq-default}
-use Rattle.limits.specs.Limits.{maxEdges}
+use lib.ListN.{length, getD, List·getD-append, List·getD-eq-default}
 use Rattle.loops.specs.SumLaws.{sum-same}
 use Rattle.loops.specs.TestLaws.{clash}
 use Rattle.number.specs.Number.{Bytes}
@@ -17,8 +16,8 @@ use Rattle.frame.specs.Job.{Job, bytesOf, costOf}
 use Rattle.frame.specs.Meaning.{Small, Divides, Accepted}
 use Rattle.frame.specs.AnswerMeaning.{Certified}
 use Rattle.frame.specs.Services.{written}
-use Rattle.frame.specs.Questions.{jobOf, refusal, later}
-use Rattle.frame.specs.Form.{later-first}
+use Rattle.frame.specs.Questions.{jobOf, refusal}
+use Rattle.frame.specs.Form.{later-first, later-none}
 use Rattle.frame.specs.Accepted.{accepted, cost-small}
 use Rattle.frame.specs.Outcomes.{served-of, served-none}
 use Rattle.codec.specs.declared.Reply.{Reply}
@@ -29,12 +28,7 @@ use Rattle.sheet.specs.SheetLaws.{sheet-found, costs-found, sheet-means, costs-
 use Rattle.sheet.specs.SheetLaws.{translated-sum, translated-most, translated-costs-most, translated-costs-are}
 use Rattle.stepping.specs.Stepping.{linkCount, sheetFor, costsFor, sheetRefusal, costsRefusal, SheetGiven, CostsGiven, SheetMade, SheetApplied}
 
--- A question of our own that was passed: the six were, and what it asks for was found.
-later-none : (r : ℕ) (holds : Bool) (number : ℕ) → later r holds (suc number) ≡ 0 → (r ≡ 0) × (holds ≡ true)
-later-none zero true number e = (refl, refl)
-later-none zero false number e = absurd (omega (arith, e))
-later-none (suc r) holds number e = absurd (omega (arith, e))
-
+-- What is there was found.
 found-is : (o : Option (List ℕ)) → isSome o ≡ true → o ≡ some (Option·getD o [])
 found-is (some x) e = refl
 found-is none e = clash e refl

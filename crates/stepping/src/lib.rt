@@ -1,8 +1,6 @@
 // Step sheets for a job frame: the sheet of new costs, and the costs that a sheet leads to, into an area.
-ghost use mathlib.Core.Path.{_≡_};
 ghost use mathlib.Core.List.{List};
 ghost use Prim.Native.Nat.{ℕ};
-ghost use Rattle.frame.specs.Arrays.{arrays};
 ghost use Rattle.stepping.specs.Stepping.{SheetMade, SheetApplied, AskedCosts, SomeCosts};
 use accept::accept;
 use codec::Reply;
@@ -63,6 +61,7 @@ pub fn sheet_of_costs(frame: &[u8], costs: &[u8], area: &mut [u8]) -> Reply
         &mut mark,
         &mut ts,
         &mut mask,
+        false,
     );
     sheet_held(header, &cost, costs, area)
 }
@@ -85,6 +84,7 @@ pub fn costs_of_sheet(frame: &[u8], sheet: &[u8], area: &mut [u8]) -> Reply
         &mut mark,
         &mut ts,
         &mut mask,
+        false,
     );
     costs_held(header, &mut cost, sheet, area)
 }

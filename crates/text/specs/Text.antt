@@ -1,7 +1,7 @@
 -- What is printed of an answer, as bytes of ASCII. Definitions only. Assumes nothing.
 use Prim.Native.Nat.{ℕ, zero, suc, _+_, _/_, _%_}
 use mathlib.Core.List.{List, [], _∷_, _++_}
-use lib.Dec.{ltb, eqb}
+use lib.Dec.{ltb}
 use lib.ListN.{length, getD}
 use Rattle.loops.specs.Below.{choose}
 use Rattle.loops.specs.Loop.{gather}

@@ -1,6 +1,5 @@
 // The lines of an answer as ASCII text, put one behind the other into a buffer.
 ghost use Prim.Native.Nat.{_+_, _*_, _≤_};
-ghost use mathlib.Core.Path.{_≡_};
 ghost use mathlib.Core.List.{_++_};
 ghost use lib.ListN.{length, getD};
 ghost use Rattle.codec.specs.Numbers.{Put};

@@ -6,8 +6,8 @@ use Rattle.frame.specs.Job.{Job}
 use Rattle.frame.specs.Arrays.{Columns, columns}
 use Rattle.frame.specs.Lists.{Listed}
 use Rattle.held.specs.Held.{Stored}
-use Rattle.accept.specs.ArrayLaws.{edges-most, costs-small, links-wrong, links-right, count-few}
-use Rattle.accept.specs.ArrayLaws.{tree-ranked, tree-wrong, tree-right, tree-held}
+use Rattle.accept.specs.ArrayLaws.{TreeListed, edges-most, costs-small, links-wrong, links-right, tree-listed, count-few}
+use Rattle.accept.specs.ArrayLaws.{tree-ranked, tree-wrong, tree-right, tree-kept}
 use Rattle.accept.proofs.job_refusal.Statement.{statement}
 use Rattle.accept.proofs.job_refusal.Tie as tie
 
@@ -21,6 +21,15 @@ passed :
     let t = e .before .before in Stored j (t .args .nodes) (t .args .edges) (columns-of t) → Listed j
 passed e k = links-right k (e .before .links-refusal .result) (e .before .links-refusal .ensures) (e .if1 .left)
 
+-- the tree links that were found
+listed :
+    (t : tie.After-tree-edges) {j : Job} →
+    let s = t .before .before .before .before in
+    Stored j (s .args .nodes) (s .args .edges) (columns-of s) → TreeListed j (t .tree-edges .result) (t .tree-edges .last .1 .1 .1 .1 .0)
+listed t k =
+    let e = t .tree-edges .ensures in
+    tree-listed k (t .before .before .before .before .args .ranked) _ _ (e .0) (e .1 .0) (e .1 .1)
+
 links-refusal-requires : tie.Need-links-refusal-requires
 links-refusal-requires c κs = let (j, k) = c .pre .0 in edges-most k
 
@@ -29,8 +38,8 @@ returns c =
     let l = c .before .links-refusal in
     (λ j k. links-wrong k (l .result) (l .ensures) (c .if1 .taken), λ j k z. absurd (c .if1 .taken z))
 
-tree-ranks-requires : tie.Need-tree-ranks-requires
-tree-ranks-requires c κs =
+tree-edges-requires : tie.Need-tree-edges-requires
+tree-edges-requires c κs =
     let t = c .before .before .before in
     let (j, k) = t .pre .0 in
     (edges-most k, t .pre .1, costs-small k)
@@ -40,19 +49,15 @@ question6-requires c κs =
     let t = c .before .before in
     let f = t .before .before in
     let (j, k) = f .before .before .pre .0 in
-    let e = t .tree-ranks .ensures in
-    let few = count-few k (passed f k) (t .tree-ranks .result) (t .tree-ranks .last .1 .1 .1 .0) (e .0) (e .1 .0) (e .1 .1) in
-    ((few, omega (arith, few, e .1 .1)), tree-ranked k (passed f k) (t .tree-ranks .result) (t .tree-ranks .last .1 .1 .1 .0) (e .0) (e .1 .0) (e .1 .1))
+    let few = count-few k (passed f k) (listed t k) in
+    ((few, omega (arith, few, t .tree-edges .ensures .1 .1)), tree-ranked k (passed f k) (listed t k))
 
 returns-2 : tie.Need-returns-2
 returns-2 c =
     let q = c .before in
     let t = q .before .before .before in
-    let f = t .before .before in
-    let e = t .tree-ranks .ensures in (
-      λ j k.
-          tree-wrong k (passed f k) (t .tree-ranks .result) (t .tree-ranks .last .1 .1 .1 .0) (e .0) (e .1 .0) (e .1 .1)
-          (q .question6 .result) (q .question6 .ensures .0) (not-true _ (c .if2 .taken)),
+    let f = t .before .before in (
+      λ j k. tree-wrong k (passed f k) (listed t k) (q .question6 .result) (q .question6 .ensures .0) (not-true _ (c .if2 .taken)),
       λ j k z. absurd (omega (arith, z)),
     )
 
@@ -61,14 +66,11 @@ returns-3 c =
     let q = c .before in
     let t = q .before .before .before in
     let f = t .before .before in
-    let e = t .tree-ranks .ensures in
     let yes = not-false _ (c .if2 .left) in (
-      λ j k.
-          tree-right k (passed f k) (t .tree-ranks .result) (t .tree-ranks .last .1 .1 .1 .0) (e .0) (e .1 .0) (e .1 .1)
-          (q .question6 .result) (q .question6 .ensures .0) yes,
+      λ j k. tree-right k (passed f k) (listed t k) (q .question6 .result) (q .question6 .ensures .0) yes,
       λ j k _.
-          tree-held k (passed f k) (t .tree-ranks .result) (t .tree-ranks .last .1 .1 .1 .0) (e .0) (e .1 .0) (e .1 .1)
-          (q .question6 .result) (q .question6 .ensures .0) yes (q .question6 .last .1 .1 .1 .1 .1 .0) (q .question6 .ensures .1 yes),
+          tree-kept k (passed f k) (listed t k) (q .question6 .result) (q .question6 .ensures .0) yes (f .before .before .args .ranked) (t .tree-edges .ensures .1 .0)
+          (q .question6 .last .1 .1 .1 .1 .1 .0) (q .question6 .ensures .1 yes),
     )
 
 pub job-refusal-spec : {M : Type 1} → statement M
@@ -77,7 +79,7 @@ job-refusal-spec =
     (tie.spec
     links-refusal-requires
     returns
-    tree-ranks-requires
+    tree-edges-requires
     question6-requires
     returns-2
     returns-3)

@@ -2,7 +2,6 @@
 -- Assumes nothing.
 use Prim.Native.Nat.{_-_}
 use native.Mathlib.Omega.{arith}
-use lib.ListN.{length-set}
 use borrow.Author.Needs.{needs}
 use Rattle.filling.specs.FillLaws.{copy-start, NumbersCopying, numbers-turn, numbers-end}
 use Rattle.filling.proofs.copy_numbers.Statement.{statement}

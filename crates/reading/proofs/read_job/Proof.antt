@@ -42,7 +42,7 @@ returns-2 c =
     let z = c .before .before .before .before .before .before .if1 .left in
     job-given s (bytes t) _
     (given-job (refusal s) (h .nodes) (h .edges) (c .gather .result) (jobOf s) (accepted-number s h is ∙ z) (accepted-nodes s h is z) (accepted-edges s h is z)
-    (c .gather .ensures ∙ gathered-stored 256 (t .accept .ensures .1 z .stored)))
+    (c .gather .ensures ∙ gathered-stored 256 (t .accept .ensures .1 z)))
 
 pub read-job-spec : {M : Type 1} → statement M
 read-job-spec =
