@@ -24,15 +24,22 @@ use Rattle.paths.specs.WordLaws.{lowest-below, lowest-set, lowest-before
 -- ---- turns at some numbers only
 
 module _ {A : Type 0} where
+  -- Turns that do the same where P holds, and keep P.
+  pub scan-alike :
+      (f h : ℕ → A → A) (P : A → Type 0) (turns i : ℕ) (st : A) → P st
+      → ((k : ℕ) (s : A) → i ≤ k → k < i + turns → P s → (f k s ≡ h k s) × P (h k s))
+      → scan f turns i st ≡ scan h turns i st
+  unfolding scan
+  scan-alike f h P zero i st start alike = refl
+  scan-alike f h P (suc turns) i st start alike =
+      let turn : (f i st ≡ h i st) × P (h i st) = alike i st (omega arith) (omega arith) start in
+      rw (turn .0) (scan-alike f h P turns (suc i) (h i st) (turn .1) (λ k s l m. alike k s (omega arith) (omega arith)))
+
   -- Turns that do the same.
   scan-same :
       (f h : ℕ → A → A) (turns i : ℕ) (st : A) → ((k : ℕ) (s : A) → i ≤ k → k < i + turns → f k s ≡ h k s)
       → scan f turns i st ≡ scan h turns i st
-  unfolding scan
-  scan-same f h zero i st same = refl
-  scan-same f h (suc turns) i st same =
-      rw (same i st (omega arith) (omega arith))
-      (scan-same f h turns (suc i) (h i st) (λ k s l m. same k s (omega arith) (omega arith)))
+  scan-same f h turns i st same = scan-alike f h (λ _. Unit) turns i st tt (λ k s l m _. (same k s l m, tt))
 
   module _ (body : ℕ → A → A) where
     -- Past the last number of which p holds, nothing is done.
@@ -138,14 +145,16 @@ module _ (count : ℕ) (ranks as₁ as₂ adj : List ℕ) (few : count ≤ 64) (
       (λ k s b l. rw (h .own v k, lt-ltb k count (omega arith), grow-tried nodes edges k s (omega arith), getD-take count ranks k 0 (omega arith)))
       ∙ ap (λ n. scan (tryAt (arrayGraph nodes edges as₁ as₂) (take count ranks) v) n 0 st) (sym (length-take-le count ranks within))
 
-  -- They name edges between nodes.
-  pub word-named : (nodes : ℕ) → RankedEnds nodes count ranks as₁ as₂ → (v : ℕ) → Named (getD adj v 0) ranks as₁ as₂
-  word-named nodes r v =
+  -- They name edges between nodes, and so do some of them.
+  pub word-named :
+      (nodes : ℕ) → RankedEnds nodes count ranks as₁ as₂ → (v word : ℕ) → ((k : ℕ) → bit word k ≡ true → bit (getD adj v 0) k ≡ true)
+      → Named word ranks as₁ as₂
+  word-named nodes r v word part =
       record {
         edge = λ k b. r .edge k (low k b);
         first = λ k b. omega (arith, r .small, r .first k (low k b));
         second = λ k b. omega (arith, r .small, r .second k (low k b));
       }
     where
-      low : (k : ℕ) → bit (getD adj v 0) k ≡ true → k < count
-      low k b = ltb-true k count (and-first (ltb k count) _ (sym (h .own v k) ∙ b))
+      low : (k : ℕ) → bit word k ≡ true → k < count
+      low k b = ltb-true k count (and-first (ltb k count) _ (sym (h .own v k) ∙ part k b))

@@ -54,12 +54,14 @@ module _ (u v k : ℕ) (st : Rooted) where
   pub tried-neither : st .reached u ≡ false → st .reached v ≡ false → tried u v k st ≡ st
   tried-neither p q = rw (p, q)
 
-  -- What a tried edge keeps.
-  pub tried-keeps : (P : Rooted → Type 0) → P st → P (attach u v k st) → P (attach v u k st) → P (tried u v k st)
+  -- What a tried edge keeps; it leads on from a node that has been reached.
+  pub tried-keeps :
+      (P : Rooted → Type 0) → P st → (st .reached u ≡ true → P (attach u v k st)) → (st .reached v ≡ true → P (attach v u k st))
+      → P (tried u v k st)
   tried-keeps P still forth back =
       cond-both P (st .reached u) _ _
-      (λ _. cond-both P (st .reached v) _ _ (λ _. still) (λ _. forth))
-      (λ _. cond-both P (st .reached v) _ _ (λ _. back) (λ _. still))
+      (λ p. cond-both P (st .reached v) _ _ (λ _. still) (λ _. forth p))
+      (λ _. cond-both P (st .reached v) _ _ back (λ _. still))
 
   pub tried-few : tried u v k st .found ≤ st .found + 1
-  tried-few = tried-keeps (λ (r : Rooted). r .found ≤ st .found + 1) (omega arith) (omega arith) (omega arith)
+  tried-few = tried-keeps (λ (r : Rooted). r .found ≤ st .found + 1) (omega arith) (λ _. omega arith) (λ _. omega arith)

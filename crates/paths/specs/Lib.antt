@@ -3,4 +3,5 @@ pub mod Arrays
 pub mod GrowLaws
 pub mod WordLaws
 pub mod ExpandLaws
+pub mod OwnLaws
 pub mod RootLaws

@@ -3,7 +3,7 @@
 use Prim.Native.Nat.{ℕ, zero, suc, _+_, _-_, _*_, _^_, _≤_, _<_}
 use native.Mathlib.Decide.{ℕ-discrete}
 use native.Mathlib.Omega.{arith}
-use mathlib.Core.Path.{_≡_, refl, sym, ap, _∙_, fun-ext}
+use mathlib.Core.Path.{_≡_, refl, sym, ap, subst, _∙_, fun-ext}
 use mathlib.Core.Logic.{inl, inr}
 use mathlib.Core.Bool.{Bool, true, false, not, cond, xor, _&&_, _||_}
 use mathlib.Core.List.{List}
@@ -16,7 +16,7 @@ use Rattle.loops.specs.Below.{choose}
 use Rattle.loops.specs.PutLaws.{put-same, put-other, put-split}
 use Rattle.loops.specs.ScanLaws.{scan-keeps}
 use Rattle.loops.specs.FirstLaws.{First, first-found}
-use Rattle.loops.specs.TestLaws.{cond-both, choose-both, and-first}
+use Rattle.loops.specs.TestLaws.{clash, cond-both, choose-both, and-first}
 use Rattle.bits.specs.Bit.{bit}
 use Rattle.bits.specs.BitLaws.{bit-zero, bit-power}
 use Rattle.bits.specs.ChangeLaws.{added}
@@ -29,6 +29,7 @@ use Rattle.paths.specs.GrowLaws.{tried-keeps, tried-few}
 use Rattle.adjacency.specs.AdjacencyLaws.{none-held}
 use Rattle.paths.specs.WordLaws.{lowest-set, lowest-before}
 use Rattle.paths.specs.ExpandLaws.{word-expands}
+use Rattle.paths.specs.OwnLaws.{Known, known-word, own-out}
 
 -- ---- a round of the model
 
@@ -43,7 +44,7 @@ module _ (g : Graph) (ranks : List ℕ) where
   expand-keeps P v st start forth back =
       scan-keeps (tryAt g ranks v) P (length ranks) 0 st start
       (λ k s a b p. cond-both P (touches g ranks v k) _ _
-      (λ _. tried-keeps (g .end₁ (getD ranks k 0)) (g .end₂ (getD ranks k 0)) k s P p (forth k s (omega arith) p) (back k s (omega arith) p))
+      (λ _. tried-keeps (g .end₁ (getD ranks k 0)) (g .end₂ (getD ranks k 0)) k s P p (λ _. forth k s (omega arith) p) (λ _. back k s (omega arith) p))
       (λ _. p))
 
   scan-few : (v turns i : ℕ) (st : Rooted) → scan (tryAt g ranks v) turns i st .found ≤ st .found + turns
@@ -103,6 +104,7 @@ module _ (nodes count : ℕ) (ranks as₁ as₂ : List ℕ) where
     pub few : front .found + 64 * rounds ≤ 1 + 64 * nodes
     pub places : length mask ≡ 64
     pub inside : 0 < nodes → (v : ℕ) → bit (front .reached) v ≡ true → v < nodes
+    pub known : Known ranks as₁ as₂ (held front mask)
     pub rest :
         expandAll (arrayGraph nodes 256 as₁ as₂) (take count ranks) rounds (bit done) (held front mask)
         ≡ rooted (arrayGraph nodes 256 as₁ as₂) (take count ranks)
@@ -113,6 +115,7 @@ module _ (nodes count : ℕ) (ranks as₁ as₂ : List ℕ) where
         few = omega arith;
         places = refl;
         inside = λ some v b. omega (arith, eqb-true 0 v (sym (bit-power 0 v) ∙ b));
+        known = λ w k on. clash on (ap (λ (st : Rooted). st .path w k) (root-held 64));
         rest = rw (root-held 64) (ap (λ d. expandAll (arrayGraph nodes 256 as₁ as₂) (take count ranks) nodes d root) (fun-ext bit-zero));
       }
 
@@ -157,10 +160,12 @@ module _ (nodes count : ℕ) (ranks as₁ as₂ : List ℕ) where
           }
 
       module _ (ranked : RankedEnds nodes count ranks as₁ as₂) (adj : List ℕ) (words : Adjacency count ranks as₁ as₂ adj)
-          (next : Front) (done′ : ℕ) (mask′ : List ℕ)
-          (e : held next mask′ ≡ triedWord (getD adj v 0) ranks as₁ as₂ (held front mask)) where
+          (word : ℕ) (out : (j : ℕ) → bit word j ≡ (bit (getD adj v 0) j && not (bit (getD mask v 0) j)))
+          (next : Front) (done′ : ℕ) (mask′ : List ℕ) (e : held next mask′ ≡ triedWord word ranks as₁ as₂ (held front mask)) where
         expanded : held next mask′ ≡ expand (arrayGraph nodes 256 as₁ as₂) (take count ranks) v (held front mask)
-        expanded = e ∙ word-expands count ranks as₁ as₂ adj (ranked .few) (ranked .within) words nodes 256 v (held front mask)
+        expanded =
+            e ∙ own-out ranks as₁ as₂ word (held front mask) (h .known) (getD adj v 0) v out
+            ∙ word-expands count ranks as₁ as₂ adj (ranked .few) (ranked .within) words nodes 256 v (held front mask)
 
         still-inside : 0 < nodes → (w : ℕ) → bit (next .reached) w ≡ true → w < nodes
         still-inside some w b =
@@ -193,6 +198,7 @@ module _ (nodes count : ℕ) (ranks as₁ as₂ : List ℕ) where
                   );
               places = places;
               inside = still-inside;
+              known = subst (Known ranks as₁ as₂) (sym e) (known-word ranks as₁ as₂ word (held front mask) (h .known));
               rest =
                   rw (expanded, added (bit done) (bit done′) v with)
                   (sym (round-more (arrayGraph nodes 256 as₁ as₂) (take count ranks) rounds (bit done) (held front mask) v l node-below node-first)

@@ -108,7 +108,10 @@ pub fn root_paths(
             return front.found;
         }
         let v = Node(bits::lowest(waiting));
-        front = expand(front, adj[v.0 as usize], ranks, end1, end2, mask);
+        let at = v.0 as usize;
+        // The tree edges on its own path have been tried: both ends of each have been found.
+        let word = bits::less(adj[at], mask[at]);
+        front = expand(front, word, ranks, end1, end2, mask);
         done = bits::with(done, v.0);
         rounds -= 1;
     }

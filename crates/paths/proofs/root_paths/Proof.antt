@@ -2,6 +2,8 @@
 -- from the start. The measure is how many rounds are left. Assumes nothing.
 use Prim.Native.Nat.{_<_}
 use native.Mathlib.Omega.{arith}
+use mathlib.Core.Path.{sym, _∙_}
+use Rattle.loops.specs.TestLaws.{and-first}
 use Rattle.adjacency.specs.Words.{Adjacency}
 use Rattle.adjacency.specs.AdjacencyLaws.{adjacency-start}
 use Rattle.paths.specs.WordLaws.{lowest-below}
@@ -43,27 +45,37 @@ returns c =
 lowest-requires : tie.Need-lowest-requires Inv-loop μ-loop
 lowest-requires c κs = omega arith
 
-cast-expand : tie.Need-cast-expand Inv-loop μ-loop
-cast-expand c = omega (arith, node-below (c .before))
+cast-at : tie.Need-cast-at Inv-loop μ-loop
+cast-at c = omega (arith, node-below (c .before))
 
-mul-expand : tie.Need-mul-expand Inv-loop μ-loop
-mul-expand c = omega (arith, node-below (c .before))
+mul-less : tie.Need-mul-less Inv-loop μ-loop
+mul-less c = omega (arith, node-below (c .before))
 
-array-read-expand : tie.Need-array-read-expand Inv-loop μ-loop
-array-read-expand c = node-below (c .before)
+array-read-less : tie.Need-array-read-less Inv-loop μ-loop
+array-read-less c = node-below (c .before)
+
+mul-less-2 : tie.Need-mul-less-2 Inv-loop μ-loop
+mul-less-2 c = omega (arith, node-below (c .before))
+
+element-copy-out-less : tie.Need-element-copy-out-less Inv-loop μ-loop
+element-copy-out-less c = node-below (c .before)
+
+less-requires-2 : tie.Need-less-requires-2 Inv-loop μ-loop
+less-requires-2 c κs = omega arith
 
 expand-requires : tie.Need-expand-requires Inv-loop μ-loop
 expand-requires c κs =
-    let e = c .before .before in
+    let o = c .before in
+    let e = o .before .before .before in
     let l = e .before .before .before .before .loop in
     let s = e .before .before .before .before .before .before .before .before in (
       word-named (s .args .count) (s .args .ranks .now) (s .args .end1 .now) (s .args .end2 .now) _ (s .pre .few) (s .pre .within) (l .inv .0)
-          (s .args .nodes) (s .pre) (e .lowest .result),
+          (s .args .nodes) (s .pre) (e .lowest .result) (o .less2 .result) (λ k b. and-first _ _ (sym (o .less2 .ensures k) ∙ b)),
       (omega (arith, l .inv .1 .few, s .pre .small), l .inv .1 .places),
     )
 
 with-requires : tie.Need-with-requires Inv-loop μ-loop
-with-requires c κs = node-below (c .before .before .before)
+with-requires c κs = node-below (c .before .before .before .before .before)
 
 sub-rounds : tie.Need-sub-rounds Inv-loop μ-loop
 sub-rounds c = omega arith
@@ -74,7 +86,8 @@ loop-less c = omega arith
 loop-again : tie.Need-loop-again Inv-loop μ-loop
 loop-again c =
     let x = c .before in
-    let e = x .before .before .before in
+    let o = x .before .before in
+    let e = o .before .before .before in
     let w = e .before .before in
     let l = w .before .before .loop in
     let s = w .before .before .before .before .before .before in
@@ -82,7 +95,8 @@ loop-again c =
       l .inv .0,
       rounds-more (a .nodes) (a .count) (a .ranks .now) (a .end1 .now) (a .end2 .now) (l .rounds) (l .front) (l .done) (l .mask) (l .inv .1)
           (w .before .loop-test .taken) (w .less .result) (w .less .ensures) (omega arith) (omega arith) (e .lowest .result) (e .lowest .ensures)
-          (s .pre) _ (l .inv .0) (x .expand .result) (c .with .result) _ (x .expand .ensures .0) (x .expand .ensures .1) (c .with .ensures),
+          (s .pre) _ (l .inv .0) (o .less2 .result) (o .less2 .ensures) (x .expand .result) (c .with .result) _ (x .expand .ensures .0)
+          (x .expand .ensures .1) (c .with .ensures),
     )
 
 returns-2 : tie.Need-returns-2 Inv-loop μ-loop
@@ -102,9 +116,12 @@ root-paths-spec =
     less-requires
     returns
     lowest-requires
-    cast-expand
-    mul-expand
-    array-read-expand
+    cast-at
+    mul-less
+    array-read-less
+    mul-less-2
+    element-copy-out-less
+    less-requires-2
     expand-requires
     with-requires
     sub-rounds
