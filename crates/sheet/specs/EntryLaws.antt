@@ -6,10 +6,10 @@ use native.Mathlib.Omega.{arith}
 use mathlib.Core.Path.{_≡_, refl, sym, ap, subst, _∙_}
 use mathlib.Core.Logic.{_≢_, inl, inr}
 use mathlib.Core.Bool.{Bool, true, false, not, _&&_}
-use mathlib.Core.List.{List, [], _∷_, _++_, flatMap, append-assoc, List·Memᴰ, List·Memᴰ·head, List·Memᴰ·tail, List·Memᴰ·cases-cons, List·Memᴰ·not-nil}
+use mathlib.Core.List.{List, [], _∷_, _++_, flatMap, List·Memᴰ, List·Memᴰ·head, List·Memᴰ·tail, List·Memᴰ·cases-cons, List·Memᴰ·not-nil}
 use mathlib.Core.Option.{Option, some, none}
 use lib.Dec.{leb, ltb, eqb}
-use lib.IntN.{ℤ, pos, _+ℤ_, +ℤ-idr}
+use lib.IntN.{pos, _+ℤ_, +ℤ-idr}
 use lib.ListN.{length, drop, take-append-drop, length-drop}
 use lib.Seq.{drop-append-seam, drop-append-add, drop-drop}
 use borrow.Author.Tests.{eq-eqb, ne-eqb, le-leb, lt-ltb, leb-true, ltb-true, eqb-false, not-true}
@@ -17,7 +17,7 @@ use Rattle.limits.specs.Limits.{maxNumber, changeBytes}
 use Rattle.loops.specs.Below.{choose}
 use Rattle.loops.specs.Loop.{put}
 use Rattle.loops.specs.PutLaws.{put-same, put-other}
-use Rattle.loops.specs.TestLaws.{and-first, and-second, and-both, clash}
+use Rattle.loops.specs.TestLaws.{and-first, and-second}
 use Rattle.number.specs.Number.{Bytes, encode, Decoded, decode}
 use Rattle.number.specs.Number.Decoded.{number}
 use Rattle.number.specs.Laws.{bytes-drop, decode-encode, encode-decode, decode-bound, decode-size}

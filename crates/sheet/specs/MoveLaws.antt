@@ -1,18 +1,18 @@
 -- The sheet of new costs: it is one in form and leads to them, no other one does, its absolute changes are the steps, and it is
--- at most `sheetMost` bytes long. Assumes nothing.
-use Prim.Native.Nat.{ℕ, zero, suc, _+_, _-_, _*_, _^_, _<_, _≤_}
+-- at most `sheetMost` bytes long, and at most 6 n + 2 if n links move. Assumes nothing.
+use Prim.Native.Nat.{ℕ, zero, suc, _+_, _-_, _*_, _<_, _≤_}
 use native.Mathlib.Decide.{ℕ-discrete, decLt}
 use native.Mathlib.Omega.{arith}
 use mathlib.Core.Path.{_≡_, refl, sym, ap, _∙_}
 use mathlib.Core.Logic.{_≢_, inl, inr}
-use mathlib.Core.List.{List, [], _∷_, _++_, flatMap, List·Memᴰ, List·Memᴰ·head, List·Memᴰ·cases-cons, List·Memᴰ·not-nil}
+use mathlib.Core.List.{List, [], _∷_, _++_, flatMap, List·Memᴰ, List·Memᴰ·head, List·Memᴰ·tail, List·Memᴰ·cases-cons, List·Memᴰ·not-nil}
 use lib.IntN.{ℤ, pos, negsuc, natAbs, _+ℤ_, _-ℤ_, +ℤ-idr}
 use lib.ListN.{length, length-append}
 use borrow.Author.Tests.{eq-eqb, ne-eqb}
 use Rattle.limits.specs.Limits.{maxEdges, changeBytes, sheetMost}
 use Rattle.loops.specs.Below.{sum}
 use Rattle.loops.specs.Loop.{gather}
-use Rattle.loops.specs.Ordered.{Ordered, ordered-unique}
+use Rattle.loops.specs.Ordered.{ordered-unique}
 use Rattle.loops.specs.GatherLaws.{gather-has, gather-from, gather-ordered, gather-sum}
 use Rattle.loops.specs.SumLaws.{sumOver, sum-same}
 use Rattle.number.specs.Number.{encode}
@@ -21,8 +21,8 @@ use Rattle.optimum.specs.Distance.{distance-is}
 use Rattle.frame.specs.Job.{bytesBy}
 use Rattle.frame.specs.RoundTrip.{flatMap-append}
 use Rattle.sheet.specs.Sheet.{Move, coded, moveNumbers, sheetFrame, MoveIn, RisingMoves, SheetOf, InRange, changeOf, LeadsTo, moveOf, movesOf, moveSum}
-use Rattle.sheet.specs.ChangeLaws.{change-is, change-leads, no-change, same-change, unnamed, named, EntryFor, change-named}
-use Rattle.sheet.specs.EntryLaws.{entriesBytes, entries-more}
+use Rattle.sheet.specs.ChangeLaws.{change-is, change-leads, no-change, same-change, unnamed, named, change-named}
+use Rattle.sheet.specs.EntryLaws.{entriesBytes}
 
 -- ---- the entry of a link
 
@@ -161,6 +161,22 @@ pub entries-append : (ks ls : List Move) → entriesBytes (ks ++ ls) ≡ entries
 entries-append ks ls =
     ap (bytesBy changeBytes) (flatMap-append moveNumbers ks ls) ∙ flatMap-append (encode changeBytes) (flatMap moveNumbers ks) (flatMap moveNumbers ls)
 
+-- Entries of links below 16,384 take at most six bytes each: a link two, a code four.
+entries-each : (ks : List Move) → ((k : Move) → List·Memᴰ k ks → k .edge < 16384) → length (entriesBytes ks) ≤ 6 * length ks
+unfolding flatMap
+entries-each [] each = omega arith
+entries-each (k ∷ ks) each =
+    let link = encode changeBytes (k .edge) in
+    let code = encode changeBytes (coded (k .change)) in
+    omega (
+      arith,
+      length-append link (code ++ entriesBytes ks),
+      length-append code (entriesBytes ks),
+      encode-size-below 2 changeBytes (k .edge) (omega arith) (omega (arith, each k (List·Memᴰ·head refl))),
+      encode-size-most changeBytes (coded (k .change)),
+      entries-each ks (λ x q. each x (List·Memᴰ·tail q)),
+    )
+
 module _ (c d : ℕ → ℕ) where
   -- An entry takes at most five bytes below link 128, and six from there to link 16,383.
   entry-most : (e : ℕ) → e < 16384 → length (entriesBytes (moveOf e (c e) (d e))) ≤ 5 + ((e + 1 - 128) - (e - 128))
@@ -209,13 +225,20 @@ module _ (c d : ℕ → ℕ) where
         entry-most m (omega arith),
       )
 
-  pub sheet-most : (m : ℕ) → m ≤ maxEdges → length (sheetFrame (movesOf m c d)) ≤ sheetMost
+  -- The count in front takes at most two bytes.
+  count-two : (m : ℕ) → m ≤ maxEdges → length (sheetFrame (movesOf m c d)) ≤ length (entriesBytes (movesOf m c d)) + 2
   unfolding flatMap
-  sheet-most m l =
+  count-two m l =
       let count : ℕ = length (movesOf m c d) in
       omega (
         arith,
         length-append (encode changeBytes count) (entriesBytes (movesOf m c d)),
         encode-size-below 2 changeBytes count (omega arith) (omega (arith, moves-few m)),
-        entries-most m (omega arith),
       )
+
+  pub sheet-most : (m : ℕ) → m ≤ maxEdges → length (sheetFrame (movesOf m c d)) ≤ sheetMost
+  sheet-most m l = omega (arith, count-two m l, entries-most m (omega arith))
+
+  -- A sheet of n moves takes at most 6 n + 2 bytes.
+  pub sheet-short : (m : ℕ) → m ≤ maxEdges → length (sheetFrame (movesOf m c d)) ≤ 6 * length (movesOf m c d) + 2
+  sheet-short m l = omega (arith, count-two m l, entries-each (movesOf m c d) (λ k q. omega (arith, moves-from m c d k q .0)))

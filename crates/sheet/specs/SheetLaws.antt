@@ -1,11 +1,11 @@
 -- The readers find what is in form, and nothing else; a sheet and new costs each give the other. Assumes nothing.
-use Prim.Native.Nat.{ℕ, zero, suc, _+_, _^_, _<_, _≤_}
+use Prim.Native.Nat.{ℕ, suc, _+_, _^_, _<_, _≤_}
 use native.Mathlib.Decide.{ℕ-discrete, decLt}
 use native.Mathlib.Omega.{arith}
 use mathlib.Core.Path.{_≡_, refl, sym, ap, subst, _∙_}
 use mathlib.Core.Logic.{_↔_}
-use mathlib.Core.Bool.{true, false}
-use mathlib.Core.List.{List, [], _∷_, _++_, flatMap, List·Memᴰ, List·Memᴰ·head, List·Memᴰ·tail}
+use mathlib.Core.Bool.{true}
+use mathlib.Core.List.{List, [], _∷_, flatMap, List·Memᴰ, List·Memᴰ·head, List·Memᴰ·tail}
 use mathlib.Core.Option.{Option, some, none, Option·map}
 use lib.ListN.{length, getD, drop, take-append-drop, List·getD-eq-default}
 use lib.IntN.{pos, natAbs, _-ℤ_}
@@ -26,7 +26,7 @@ use Rattle.frame.specs.Division.{division, division-unique}
 use Rattle.frame.specs.Accepted.{numbers-bytes}
 use Rattle.frame.specs.OwnAnswer.{bytes-most}
 use Rattle.sheet.specs.Sheet.{Move, sheetFrame, MoveIn, RisingMoves, SheetOf, InRange, costsFrame, CostsOf, LeadsTo, movesOf, Translated, moveSum}
-use Rattle.sheet.specs.Reading.{isSome, costsFrom, readCosts, costsAt, applyFrom, behindCount, applySheet, sheetBytes, costsBytes}
+use Rattle.sheet.specs.Reading.{isSome, costsFrom, readCosts, costsAt, behindCount, applySheet, sheetBytes, costsBytes}
 use Rattle.sheet.specs.EntryLaws.{entriesBytes, Applied, apply-sound, apply-complete}
 use Rattle.sheet.specs.MoveLaws.{moves-sheet, moves-lead, lead-moves, move-sum, sheet-most}
 

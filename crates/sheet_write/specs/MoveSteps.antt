@@ -12,7 +12,6 @@ use Rattle.loops.specs.Loop.{gather}
 use Rattle.number.specs.Number.{encode}
 use Rattle.codec.specs.ListLaws.{gather-within}
 use Rattle.sheet.specs.Sheet.{Move, coded, moveOf, movesOf}
-use Rattle.sheet.specs.ChangeLaws.{coded-zero, no-change, same-change}
 use Rattle.sheet.specs.EntryLaws.{entriesBytes}
 use Rattle.sheet.specs.MoveLaws.{entries-append}
 
@@ -44,28 +43,26 @@ module _ (c d : ℕ → ℕ) where
             length-append (entriesBytes (movesOf e c d)) (entriesBytes own),
       ))
 
-  module _ (e code : ℕ) (is : code ≡ coded (pos (d e) -ℤ pos (c e))) where
-    -- A link that stays.
-    pub moves-stay : code ≡ 0 → movesOf (e + 1) c d ≡ movesOf e c d
-    moves-stay z =
-        let same : d e ≡ c e = no-change (d e) (c e) (coded-zero (pos (d e) -ℤ pos (c e)) (sym is ∙ z)) in
-        more e ∙ rw (eq-eqb (d e) (c e) same) (append-nil (movesOf e c d))
+  -- A link that stays, and one that moves.
+  module _ (e : ℕ) where
+    pub moves-stay : c e ≡ d e → movesOf (e + 1) c d ≡ movesOf e c d
+    moves-stay q = more e ∙ rw (eq-eqb (d e) (c e) (sym q)) (append-nil (movesOf e c d))
 
-    -- A link that moves.
-    module _ (moved : code ≡ 0 → ⊥) where
+    module _ (moved : c e ≡ d e → ⊥) where
       one : movesOf (e + 1) c d ≡ movesOf e c d ++ (record { edge = e; change = pos (d e) -ℤ pos (c e) } ∷ [])
-      one = more e ∙ rw (ne-eqb (d e) (c e) (λ q. moved (is ∙ ap coded (same-change (d e) (c e) q))))
+      one = more e ∙ rw (ne-eqb (d e) (c e) (λ q. moved (sym q)))
 
       pub moves-count : length (movesOf (e + 1) c d) ≡ length (movesOf e c d) + 1
       moves-count = ap length one ∙ length-append (movesOf e c d) _
 
-      pub moves-bytes : entriesBytes (movesOf (e + 1) c d) ≡ entriesBytes (movesOf e c d) ++ encode changeBytes e ++ encode changeBytes code
-      unfolding flatMap
-      moves-bytes =
-          ap entriesBytes one ∙ entries-append (movesOf e c d) _ ∙
-          rw (← is, append-nil (encode changeBytes code)) (sym (append-assoc (entriesBytes (movesOf e c d)) (encode changeBytes e) (encode changeBytes code)))
+      module _ (code : ℕ) (is : code ≡ coded (pos (d e) -ℤ pos (c e))) where
+        pub moves-bytes : entriesBytes (movesOf (e + 1) c d) ≡ entriesBytes (movesOf e c d) ++ encode changeBytes e ++ encode changeBytes code
+        unfolding flatMap
+        moves-bytes =
+            ap entriesBytes one ∙ entries-append (movesOf e c d) _ ∙
+            rw (← is, append-nil (encode changeBytes code)) (sym (append-assoc (entriesBytes (movesOf e c d)) (encode changeBytes e) (encode changeBytes code)))
 
-      pub moves-size :
-          length (entriesBytes (movesOf (e + 1) c d))
-          ≡ length (entriesBytes (movesOf e c d)) + length (encode changeBytes e) + length (encode changeBytes code)
-      moves-size = ap length moves-bytes ∙ simp length-append
+        pub moves-size :
+            length (entriesBytes (movesOf (e + 1) c d))
+            ≡ length (entriesBytes (movesOf e c d)) + length (encode changeBytes e) + length (encode changeBytes code)
+        moves-size = ap length moves-bytes ∙ simp length-append

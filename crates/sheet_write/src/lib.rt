@@ -13,12 +13,6 @@ ghost use Rattle.sheet.specs.EntryLaws.{entriesBytes};
 use codec::Reply;
 use codec::refused;
 
-// How many links move, and how many bytes their entries take.
-struct Measured {
-    count: u32,
-    length: usize,
-}
-
 // The code of a link's change; 0 if its cost stays.
 fn change_code(old: u32, new: u32) -> u32
     requires { ⌜ old ≤ maxNumber ⌝ }
@@ -31,30 +25,40 @@ fn change_code(old: u32, new: u32) -> u32
     2 * (old - new) - 1
 }
 
-// Measures the entries of the first `edges` links.
-fn measure(edges: usize, old: &[u32; 256], new: &[u32; 256]) -> Measured
+// How many of the first `edges` links move.
+fn count_moved(edges: usize, old: &[u32; 256], new: &[u32; 256]) -> u32
+    requires { ⌜ edges ≤ 256 ⌝ }
+    ensures { λ r. ⌜ r ≡ length (movesOf edges (costsAt (now (old .entry))) (costsAt (now (new .entry)))) ⌝ }
+{
+    let mut count: u32 = 0;
+    let mut e: usize = 0;
+    while e < edges {
+        if old[e] != new[e] {
+            count += 1;
+        }
+        e += 1;
+    }
+    count
+}
+
+// How many bytes the entries of the first `edges` links take.
+fn entries_size(edges: usize, old: &[u32; 256], new: &[u32; 256]) -> usize
     requires { ⌜ edges ≤ 256 ⌝ }
     requires { ⌜ InRange edges (costsAt (now old)) ⌝ }
     requires { ⌜ InRange edges (costsAt (now new)) ⌝ }
-    ensures count { λ r. ⌜ r .count ≡ length (movesOf edges (costsAt (now (old .entry))) (costsAt (now (new .entry)))) ⌝ }
-    ensures length { λ r. ⌜ r .length ≡ length (entriesBytes (movesOf edges (costsAt (now (old .entry))) (costsAt (now (new .entry))))) ⌝ }
+    ensures { λ r. ⌜ r ≡ length (entriesBytes (movesOf edges (costsAt (now (old .entry))) (costsAt (now (new .entry))))) ⌝ }
 {
-    let mut count: u32 = 0;
     let mut length: usize = 0;
     let mut e: usize = 0;
     while e < edges {
-        let code = change_code(old[e], new[e]);
-        if code != 0 {
-            count += 1;
+        if old[e] != new[e] {
+            let code = change_code(old[e], new[e]);
             length += leb128_write::size_long(e as u32);
             length += leb128_write::size_long(code);
         }
         e += 1;
     }
-    Measured {
-        count: count,
-        length: length,
-    }
+    length
 }
 
 // Puts the entries of the first `edges` links at a position and gives the position behind them.
@@ -69,8 +73,8 @@ fn put_moves(area: &mut [u8], at: usize, edges: usize, old: &[u32; 256], new: &[
     let mut next = at;
     let mut e: usize = 0;
     while e < edges {
-        let code = change_code(old[e], new[e]);
-        if code != 0 {
+        if old[e] != new[e] {
+            let code = change_code(old[e], new[e]);
             let middle = leb128_write::write_long(area, next, e as u32);
             next = leb128_write::write_long(area, middle, code);
         }
@@ -79,7 +83,8 @@ fn put_moves(area: &mut [u8], at: usize, edges: usize, old: &[u32; 256], new: &[
     next
 }
 
-// Writes the sheet of the new costs of the first `edges` links; question 7.
+// Writes the sheet of the new costs of the first `edges` links; question 7. A link below 256 takes at most two bytes, the code of
+// a change four, the count two: where the area has room for that, the entries are not measured.
 pub fn write_sheet(edges: usize, old: &[u32; 256], new: &[u32; 256], area: &mut [u8]) -> Reply
     requires { ⌜ edges ≤ 256 ⌝ }
     requires { ⌜ InRange edges (costsAt (now old)) ⌝ }
@@ -87,12 +92,14 @@ pub fn write_sheet(edges: usize, old: &[u32; 256], new: &[u32; 256], area: &mut 
     ensures { λ r. ⌜ outcome r (now (area .exit))
         ≡ written 0 (sheetFrame (movesOf edges (costsAt (now (old .entry))) (costsAt (now (new .entry))))) 0 (now (area .entry)) ⌝ }
 {
-    let measured = measure(edges, old, new);
-    let front = leb128_write::size_long(measured.count);
-    if area.len() < front + measured.length {
-        return refused(7);
+    let count = count_moved(edges, old, new);
+    if area.len() < 6 * count as usize + 2 {
+        let front = leb128_write::size_long(count);
+        if area.len() < front + entries_size(edges, old, new) {
+            return refused(7);
+        }
     }
-    let behind = leb128_write::write_long(area, 0, measured.count);
+    let behind = leb128_write::write_long(area, 0, count);
     let end = put_moves(area, behind, edges, old, new);
     Reply {
         refusal: 0,
@@ -100,14 +107,17 @@ pub fn write_sheet(edges: usize, old: &[u32; 256], new: &[u32; 256], area: &mut 
     }
 }
 
-// Writes the costs of the first `edges` links; question 7.
+// Writes the costs of the first `edges` links; question 7. A cost takes at most three bytes: where the area has room for that,
+// they are not measured.
 pub fn write_costs(edges: usize, costs: &[u32; 256], area: &mut [u8]) -> Reply
     requires { ⌜ edges ≤ 256 ⌝ }
     ensures { λ r. ⌜ outcome r (now (area .exit)) ≡ written 0 (bytesOf (numbersAt edges (now (costs .entry)))) 0 (now (area .entry)) ⌝ }
 {
-    let total = codec::numbers_size(costs, edges);
-    if area.len() < total {
-        return refused(7);
+    if area.len() < 3 * edges {
+        let total = codec::numbers_size(costs, edges);
+        if area.len() < total {
+            return refused(7);
+        }
     }
     let end = codec::write_numbers(area, 0, costs, edges);
     Reply {

@@ -3,8 +3,6 @@
 use Prim.Native.Nat.{ℕ, _+_, _-_, _<_, _≤_}
 use native.Mathlib.Omega.{arith}
 use mathlib.Core.Path.{_≡_, sym, ap, _∙_}
-use mathlib.Core.List.{List}
-use mathlib.Core.Option.{Option}
 use mathlib.Core.Bool.{true}
 use lib.ListN.{length, drop, length-set}
 use borrow.Author.Needs.{needs}

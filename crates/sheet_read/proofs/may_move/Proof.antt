@@ -1,5 +1,4 @@
 -- `sheet_read::may_move` meets its contract: each test is one of the model's. Assumes nothing.
-use mathlib.Core.Path.{refl}
 use native.Mathlib.Omega.{arith}
 use borrow.Author.Tests.{le-leb, lt-leb, lt-ltb, le-ltb}
 use Rattle.sheet_read.proofs.may_move.Statement.{statement}

@@ -7,7 +7,6 @@ use mathlib.Core.List.{List, _++_, flatMap}
 use native.Mathlib.Omega.{arith}
 use lib.ListN.{length, length-append}
 use lib.Seq.{length-sets}
-use borrow.Author.Needs.{needs}
 use Rattle.limits.specs.Limits.{changeBytes}
 use Rattle.loops.specs.Loop.{gather}
 use Rattle.number.specs.Number.{encode}
@@ -34,15 +33,17 @@ start-of l = l .before .before
 abbrev bytes-to : tie.At-loop Inv-loop μ-loop → ℕ → List ℕ
 bytes-to l e = let a = start-of l .args in entriesBytes (movesOf e (costsAt (a .old .now)) (costsAt (a .new .now)))
 
+abbrev at-code : tie.After-change-code Inv-loop μ-loop → tie.At-loop Inv-loop μ-loop
+at-code v = v .before .before .before .before .before .before .before
+
 room :
-    (t : tie.Then1 Inv-loop μ-loop) →
-    let l = t .before .before .before .before .before in
+    (v : tie.After-change-code Inv-loop μ-loop) →
+    let l = at-code v in
     let link = length (encode changeBytes (l .loop .e)) in
-    let code = length (encode changeBytes (t .before .change-code .result)) in
+    let code = length (encode changeBytes (v .change-code .result)) in
     start-of l .args .at + (length (bytes-to l (l .loop .e)) + link + code) ≤ length (start-of l .args .area .now)
-room t =
-    let v = t .before in
-    let l = v .before .before .before .before in
+room v =
+    let l = at-code v in
     let a = start-of l .args in
     let old = costsAt (a .old .now) in
     let new = costsAt (a .new .now) in
@@ -50,22 +51,33 @@ room t =
       arith,
       start-of l .pre .1 .1 .1,
       entries-within old new (l .loop .e + 1) (a .edges) (omega arith),
-      moves-size old new (l .loop .e) (v .change-code .result) (v .change-code .ensures) (t .if1 .taken),
+      moves-size old new (l .loop .e) (v .before .before .before .if1 .taken) (v .change-code .result) (v .change-code .ensures),
     )
 
 -- the link is put
 link-put :
     (w : tie.After-write-long Inv-loop μ-loop) →
-    let l = w .before .before .before .before .before .before .before in
+    let l = at-code (w .before .before) in
     let a = start-of l .args in
     Put (a .area .now) (a .at) (bytes-to l (l .loop .e) ++ encode changeBytes (l .loop .e)) (w .write-long .result) (w .write-long .last .0)
 link-put w =
-    let l = w .before .before .before .before .before .before .before in
-    put-more _ _ _ _ _ _ _ _ (l .loop .inv .1) (w .write-long .ensures .0) (w .write-long .ensures .1)
+    put-more _ _ _ _ _ _ _ _ (at-code (w .before .before) .loop .inv .1) (w .write-long .ensures .0) (w .write-long .ensures .1)
 
 loop-holds : tie.Need-loop-holds Inv-loop μ-loop
 unfolding gather flatMap
 loop-holds c = (omega arith, record { next = omega arith; area = refl })
+
+mul-if1 : tie.Need-mul-if1 Inv-loop μ-loop
+mul-if1 c = omega arith
+
+element-copy-out-if1 : tie.Need-element-copy-out-if1 Inv-loop μ-loop
+element-copy-out-if1 c = omega arith
+
+mul-if1-2 : tie.Need-mul-if1-2 Inv-loop μ-loop
+mul-if1-2 c = omega arith
+
+element-copy-out-if1-2 : tie.Need-element-copy-out-if1-2 Inv-loop μ-loop
+element-copy-out-if1-2 c = omega arith
 
 mul-change-code : tie.Need-mul-change-code Inv-loop μ-loop
 mul-change-code c = omega arith
@@ -81,24 +93,21 @@ element-copy-out-change-code-2 c = omega arith
 
 change-code-requires : tie.Need-change-code-requires Inv-loop μ-loop
 change-code-requires c κs =
-    let s = c .before .before .before .before .before in
+    let s = c .before .before .before .before .before .before .before .before in
     (s .pre .1 .0 _ (omega arith), s .pre .1 .1 .0 _ (omega arith))
 
 cast-write-long : tie.Need-cast-write-long Inv-loop μ-loop
 cast-write-long c = omega arith
 
 write-long-requires : tie.Need-write-long-requires Inv-loop μ-loop
-write-long-requires c κs =
-    let t = c .before in
-    let l = t .before .before .before .before .before in
-    put-room _ _ _ _ _ _ (l .loop .inv .1) (omega (arith, room t))
+write-long-requires c κs = put-room _ _ _ _ _ _ (at-code (c .before) .loop .inv .1) (omega (arith, room (c .before)))
 
 write-long-requires-2 : tie.Need-write-long-requires-2 Inv-loop μ-loop
 write-long-requires-2 c κs =
     let w = c .before .before .before in
-    let t = w .before .before in
-    let l = t .before .before .before .before .before in
-    put-room _ _ _ _ _ _ (link-put w) (omega (arith, room t, length-append (bytes-to l (l .loop .e)) (encode changeBytes (l .loop .e))))
+    let v = w .before .before in
+    let l = at-code v in
+    put-room _ _ _ _ _ _ (link-put w) (omega (arith, room v, length-append (bytes-to l (l .loop .e)) (encode changeBytes (l .loop .e))))
 
 add-e : tie.Need-add-e Inv-loop μ-loop
 add-e c = omega arith
@@ -108,20 +117,18 @@ loop-less c = omega arith
 
 loop-again : tie.Need-loop-again Inv-loop μ-loop
 loop-again c =
-    let l = c .before .before .before .before .before in
+    let l = c .before .before .before .before in
     let a = start-of l .args in
     let old = costsAt (a .old .now) in
     let new = costsAt (a .new .now) in
-    let e = l .loop .e in
-    let code = c .before .change-code .result in
-    let is = c .before .change-code .ensures in (
+    let e = l .loop .e in (
       omega arith,
       ⊎-elim
-          (λ w. rw (w .9, w .10, moves-bytes old new e code is (w .0 .taken))
+          (λ w. rw (w .12, w .13, moves-bytes old new e (w .0 .taken) (w .3 .result) (w .3 .ensures))
           (put-more _ _ _ _ _ _ _ _
-          (put-more _ _ _ _ _ _ _ _ (l .loop .inv .1) (w .2 .ensures .0) (w .2 .ensures .1))
-          (w .6 .ensures .0) (w .6 .ensures .1)))
-          (λ w. rw (w .1, w .2, moves-stay old new e code is (w .0 .left)) (l .loop .inv .1))
+          (put-more _ _ _ _ _ _ _ _ (l .loop .inv .1) (w .5 .ensures .0) (w .5 .ensures .1))
+          (w .9 .ensures .0) (w .9 .ensures .1)))
+          (λ w. rw (w .1, w .2, moves-stay old new e (w .0 .left)) (l .loop .inv .1))
           (c .if1 .came),
     )
 
@@ -141,6 +148,10 @@ put-moves-spec =
     Inv-loop
     μ-loop
     loop-holds
+    mul-if1
+    element-copy-out-if1
+    mul-if1-2
+    element-copy-out-if1-2
     mul-change-code
     element-copy-out-change-code
     mul-change-code-2

@@ -1,12 +1,32 @@
--- `sheet_write::write_costs` meets its contract: what fits is put. Assumes nothing.
+-- `sheet_write::write_costs` meets its contract: what fits is put, and costs that are not measured do. Assumes nothing.
+use Prim.Native.Nat.{ℕ, _≤_}
 use mathlib.Core.Path.{refl}
+use mathlib.Core.Logic.{⊎-elim}
+use mathlib.Core.List.{List}
 use native.Mathlib.Omega.{arith}
+use lib.ListN.{length}
 use Rattle.frame.specs.Job.{bytesOf}
 use Rattle.codec.specs.Numbers.{numbersAt}
+use Rattle.codec.specs.ListLaws.{size-short}
 use Rattle.codec.specs.WritingLaws.{put-short, put-whole}
 use borrow.Author.Needs.{needs}
 use Rattle.sheet_write.proofs.write_costs.Statement.{statement}
 use Rattle.sheet_write.proofs.write_costs.Tie as tie
+
+-- the bytes of the costs, and that there is room for them
+abbrev bytes : tie.Start → List ℕ
+bytes s = bytesOf (numbersAt (s .args .edges) (s .args .costs .now))
+
+room : (j : tie.Joined1) → let s = j .before .before in length (bytes s) ≤ length (s .args .area .now)
+room j =
+    let a = j .before .before .args in
+    ⊎-elim
+    (λ w. omega (arith, w .3 .left, w .2 .ensures))
+    (λ w. omega (arith, w .left, size-short (a .costs .now) (a .edges)))
+    (j .if1 .came)
+
+mul-if1 : tie.Need-mul-if1
+mul-if1 c = search needs
 
 numbers-size-requires : tie.Need-numbers-size-requires
 numbers-size-requires c κs = search needs
@@ -17,12 +37,11 @@ refused-requires c κs = search needs
 returns : tie.Need-returns
 returns c =
     let n = c .before .before in
-    let a = n .before .before .before .args in
-    let bytes = bytesOf (numbersAt (a .edges) (a .costs .now)) in
-    rw (c .refused .ensures) (put-short 0 bytes 0 (a .area .now) refl (omega (arith, c .before .if1 .taken, n .numbers-size .ensures)))
+    let s = n .before .before .before .before in
+    rw (c .refused .ensures) (put-short 0 (bytes s) 0 (s .args .area .now) refl (omega (arith, c .before .if2 .taken, n .numbers-size .ensures)))
 
 write-numbers-requires : tie.Need-write-numbers-requires
-write-numbers-requires c κs = search needs
+write-numbers-requires c κs = (search needs, omega (arith, room (c .before .before)))
 
 same-length : tie.Need-same-length
 same-length c = search needs
@@ -30,17 +49,16 @@ same-length c = search needs
 returns-2 : tie.Need-returns-2
 returns-2 c =
     let w = c .before .before in
-    let e = w .before .before .before in
-    let n = e .before in
-    let a = n .before .before .before .args in
-    let bytes = bytesOf (numbersAt (a .edges) (a .costs .now)) in
-    put-whole 0 bytes 0 (a .area .now) _ _ refl (omega (arith, e .if1 .left, n .numbers-size .ensures))
-    (omega (arith, w .write-numbers .ensures .next)) (w .write-numbers .ensures .area)
+    let j = w .before .before .before in
+    let s = j .before .before in
+    put-whole 0 (bytes s) 0 (s .args .area .now) _ _ refl (omega (arith, room j)) (omega (arith, w .write-numbers .ensures .next))
+    (w .write-numbers .ensures .area)
 
 pub write-costs-spec : {M : Type 1} → statement M
 write-costs-spec =
     tie.close
     (tie.spec
+    mul-if1
     numbers-size-requires
     refused-requires
     returns
