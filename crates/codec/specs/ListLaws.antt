@@ -1,13 +1,12 @@
--- Laws of the first n numbers of a list: one number more, the bytes they take, a number stored behind them; and of numbers
--- read into a list. Assumes nothing.
+-- Laws of the first n numbers of a list: one number more, the bytes they take; and of numbers read into a list. Assumes nothing.
 use Prim.Native.Nat.{ℕ, zero, suc, _+_, _-_, _*_, _<_, _≤_}
 use native.Mathlib.Decide.{decLe}
 use native.Mathlib.Numerals.{add-one}
 use native.Mathlib.Omega.{arith}
-use mathlib.Core.Path.{_≡_, refl, sym, ap, _∙_}
+use mathlib.Core.Path.{_≡_, sym, ap, _∙_}
 use mathlib.Core.List.{List, [], _∷_, _++_, flatMap, append-nil}
 use lib.ListN.{length, getD, set, take, drop, length-append, List·getD-append}
-use lib.Seq.{sets, sets-eq, getD-set-same, getD-set-other}
+use lib.Seq.{sets, sets-eq}
 use Rattle.loops.specs.Loop.{scan, gather}
 use Rattle.loops.specs.ScanLaws.{scan-turn}
 use Rattle.loops.specs.GatherLaws.{gather-same, length-tabulate, tabulate-getD}
@@ -57,14 +56,6 @@ module _ (xs : List ℕ) where
   size-short n =
       let ns = numbersAt n xs in
       omega (arith, bytes-most numberBytes ns (λ i. encode-size-most numberBytes (getD ns i 0)), length-tabulate (λ i. getD xs i 0) n)
-
-  -- A number stored behind the first n.
-  pub numbers-stored : (n v : ℕ) → n < length xs → numbersAt (n + 1) (set xs n v) ≡ numbersAt n xs ++ (v ∷ [])
-  unfolding gather
-  numbers-stored n v l =
-      rw (add-one n, getD-set-same xs n v 0 l)
-      (ap (λ (ns : List ℕ). ns ++ (v ∷ []))
-      (gather-same n (λ i. getD (set xs n v) i 0 ∷ []) (λ i. getD xs i 0 ∷ []) (λ i b. ap (λ (x : ℕ). x ∷ []) (getD-set-other xs n i v 0 (omega arith)))))
 
 -- A list put over the front of another is its first numbers.
 pub numbers-put : (xs l : List ℕ) → length xs ≤ length l → numbersAt (length xs) (sets l 0 xs) ≡ xs

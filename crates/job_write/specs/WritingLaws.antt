@@ -1,72 +1,55 @@
--- Laws of listing a job's numbers: the two counts, and one link more. Assumes nothing.
-use Prim.Native.Nat.{ℕ, _+_, _*_, _<_, _≤_}
+-- Laws of numbers in groups: one group more, a group of a job by the test of the code, and that all of them are its frame.
+-- Assumes nothing.
+use Prim.Native.Nat.{ℕ, zero, suc, _+_, _-_, _≤_}
 use native.Mathlib.Numerals.{add-one}
 use native.Mathlib.Omega.{arith}
-use mathlib.Core.Path.{_≡_, sym, ap, _∙_}
-use mathlib.Core.List.{List, [], _∷_, _++_, flatMap, append-assoc}
-use lib.ListN.{length, getD, set, length-set}
+use mathlib.Core.Path.{_≡_, refl, ap, _∙_}
+use mathlib.Core.List.{List, [], _∷_, _++_, flatMap}
+use lib.ListN.{length, length-append}
 use Rattle.loops.specs.Loop.{gather}
-use Rattle.frame.specs.Job.{fields, jobNumbers}
+use Rattle.limits.specs.Limits.{numberBytes}
+use Rattle.number.specs.Number.{encode}
+use Rattle.frame.specs.Job.{fields, bytesOf, jobFrame}
 use Rattle.frame.specs.RoundTrip.{flatMap-append}
-use Rattle.codec.specs.Numbers.{numbersAt}
-use Rattle.codec.specs.ListLaws.{numbers-stored}
 use Rattle.frame.specs.Arrays.{Columns, linkAt, linksAt, jobAt}
+use Rattle.codec.specs.Numbers.{numbersAt}
+use Rattle.codec.specs.ListLaws.{gather-within}
 use Rattle.links.specs.ColumnLaws.{rows-length}
+use Rattle.job_write.specs.Groups.{groupsBytes, group}
 
--- Four numbers stored behind the first n.
-abbrev pub fourStored : List ℕ → ℕ → ℕ → ℕ → ℕ → ℕ → List ℕ
-fourStored xs n a b c m = set (set (set (set xs n a) (n + 1) b) (n + 2) c) (n + 3) m
+module _ (f : ℕ → List ℕ) where
+  -- One group more.
+  module _ (i : ℕ) (ns : List ℕ) (is : ns ≡ f i) where
+    pub groups-more : groupsBytes f (i + 1) ≡ groupsBytes f i ++ bytesOf ns
+    unfolding gather
+    groups-more = rw (is, add-one i) (flatMap-append (encode numberBytes) (gather i f) (f i))
 
-pub length-four : (xs : List ℕ) (n a b c m : ℕ) → length (fourStored xs n a b c m) ≡ length xs
-length-four xs n a b c m =
-    length-set (set (set (set xs n a) (n + 1) b) (n + 2) c) (n + 3) m ∙
-    length-set (set (set xs n a) (n + 1) b) (n + 2) c ∙
-    length-set (set xs n a) (n + 1) b ∙
-    length-set xs n a
+    pub groups-size : length (groupsBytes f (i + 1)) ≡ length (groupsBytes f i) + length (bytesOf ns)
+    groups-size = ap length groups-more ∙ length-append (groupsBytes f i) (bytesOf ns)
 
-pub four-stored : (xs : List ℕ) (n a b c m : ℕ) → n + 4 ≤ length xs → numbersAt (n + 4) (fourStored xs n a b c m) ≡ numbersAt n xs ++ (a ∷ b ∷ c ∷ m ∷ [])
-four-stored xs n a b c m l =
-    let l₁ : length (set xs n a) ≡ length xs = length-set xs n a in
-    let l₂ : length (set (set xs n a) (n + 1) b) ≡ length xs = length-set (set xs n a) (n + 1) b ∙ l₁ in
-    let l₃ : length (set (set (set xs n a) (n + 1) b) (n + 2) c) ≡ length xs = length-set (set (set xs n a) (n + 1) b) (n + 2) c ∙ l₂ in
-    let e₂ : n + 2 ≡ n + 1 + 1 = omega arith in
-    let e₃ : n + 3 ≡ n + 2 + 1 = omega arith in
-    let e₄ : n + 4 ≡ n + 3 + 1 = omega arith in
-    rw (
-      e₄,
-      numbers-stored (set (set (set xs n a) (n + 1) b) (n + 2) c) (n + 3) m (omega (arith, l₃)),
-      e₃,
-      numbers-stored (set (set xs n a) (n + 1) b) (n + 2) c (omega (arith, l₂)),
-      e₂,
-      numbers-stored (set xs n a) (n + 1) b (omega (arith, l₁)),
-      numbers-stored xs n a (omega arith),
-    )
-    (simp append-assoc)
+  pub groups-within : (i n : ℕ) → i ≤ n → length (groupsBytes f i) ≤ length (groupsBytes f n)
+  groups-within = gather-within bytesOf f (λ i. omega (arith, groups-size i (f i) refl))
 
 module _ (nodes edges : ℕ) (c : Columns) where
-  -- The list begins with the two counts and the first e links.
-  abbrev pub Begins : ℕ → List ℕ → Type 0
-  Begins e xs = numbersAt (4 * e + 2) xs ≡ nodes ∷ edges ∷ flatMap fields (linksAt e c)
+  -- A group, by the test of the code.
+  pub group-counts : (i : ℕ) → i ≡ 0 → numbersAt 2 (nodes ∷ edges ∷ 0 ∷ 0 ∷ []) ≡ group nodes edges c i
+  unfolding gather group
+  group-counts i z = rw z
 
-  module _ (xs : List ℕ) (h : length xs ≡ 1026) where
-    pub counts-listed : Begins 0 (set (set xs 0 nodes) 1 edges)
-    unfolding gather flatMap
-    counts-listed =
-        numbers-stored (set xs 0 nodes) 1 edges (omega (arith, h, length-set xs 0 nodes)) ∙
-        ap (λ (ns : List ℕ). ns ++ (edges ∷ [])) (numbers-stored xs 0 nodes (omega (arith, h)))
+  pub group-link : (i : ℕ) → (i ≡ 0 → ⊥) → (four : List ℕ) → four ≡ fields (linkAt c (i - 1)) → numbersAt 4 four ≡ group nodes edges c i
+  unfolding gather group
+  group-link zero n four is = absurd (n refl)
+  group-link (suc e) n four is =
+      let same : suc e - 1 ≡ e = omega arith in
+      rw (is, same)
 
-    pub link-listed :
-        (e : ℕ) → e < 256 → Begins e xs →
-        Begins (e + 1) (fourStored xs (4 * e + 2) (getD (c .end₁) e 0) (getD (c .end₂) e 0) (getD (c .cost) e 0) (getD (c .mark) e 0))
-    unfolding gather flatMap
-    link-listed e l k =
-        let four : 4 * (e + 1) + 2 ≡ 4 * e + 2 + 4 = omega arith in
-        let k₄ = four-stored xs (4 * e + 2) (getD (c .end₁) e 0) (getD (c .end₂) e 0) (getD (c .cost) e 0) (getD (c .mark) e 0) (omega (arith, h)) in
-        rw (four, k₄, k, add-one e)
-        (ap (λ (ns : List ℕ). nodes ∷ edges ∷ ns) (sym (flatMap-append fields (linksAt e c) (linkAt c e ∷ []))))
+  -- All groups are the frame.
+  links-grouped : (e : ℕ) → gather (e + 1) (group nodes edges c) ≡ nodes ∷ edges ∷ flatMap fields (linksAt e c)
+  unfolding gather flatMap group
+  links-grouped zero = refl
+  links-grouped (suc e) =
+      rw (add-one (suc e), flatMap-append fields (linksAt e c) (linkAt c e ∷ []))
+      (ap (λ (ns : List ℕ). ns ++ fields (linkAt c e)) (rw add-one at (links-grouped e)))
 
-  -- All links are listed.
-  pub job-listed : (xs : List ℕ) → Begins edges xs → numbersAt (4 * edges + 2) xs ≡ jobNumbers (jobAt nodes edges c)
-  job-listed xs k =
-      let links = flatMap fields (linksAt edges c) in
-      k ∙ ap (λ (n : ℕ). nodes ∷ n ∷ links) (sym (rows-length edges c))
+  pub frame-grouped : groupsBytes (group nodes edges c) (edges + 1) ≡ jobFrame (jobAt nodes edges c)
+  frame-grouped = ap bytesOf (links-grouped edges) ∙ rw (rows-length edges c)
