@@ -3,7 +3,8 @@ ghost use mathlib.Core.Path.{_≡_};
 ghost use Prim.Native.Nat.{_+_, _≤_};
 ghost use lib.ListN.{length};
 ghost use Rattle.frame.specs.Job.{bytesOf};
-ghost use Rattle.codec.specs.Numbers.{takenAt, skipped, numbersAt, Put, Divided, loadedAt, loaded, refusedReply};
+ghost use Rattle.frame.specs.Services.{written};
+ghost use Rattle.codec.specs.Numbers.{takenAt, skipped, numbersAt, Put, Divided, loadedAt, loaded, refusedReply, outcome};
 use leb128::Number;
 
 // A number and the position behind it.
@@ -89,6 +90,25 @@ pub fn write_numbers(area: &mut [u8], at: usize, values: &[u32], count: usize) -
         i += 1;
     }
     next
+}
+
+// Writes the first `count` numbers at the front of the area; question 7. A number takes at most three bytes: where the area has
+// room for that, they are not measured.
+pub fn write_list(values: &[u32], count: usize, area: &mut [u8]) -> Reply
+    requires { ⌜ count ≤ length (now values) ⌝ }
+    ensures { λ r. ⌜ outcome r (now (area .exit)) ≡ written 0 (bytesOf (numbersAt count (now (values .entry)))) 0 (now (area .entry)) ⌝ }
+{
+    if area.len() / 3 < count {
+        let total = numbers_size(values, count);
+        if area.len() < total {
+            return refused(7);
+        }
+    }
+    let end = write_numbers(area, 0, values, count);
+    Reply {
+        refusal: 0,
+        length: end,
+    }
 }
 
 // Reads so many numbers from a position on, each into its place, and gives the position behind them. They are known to stand

@@ -1,12 +1,11 @@
-// Writes what a host is sent for a job: a step sheet, or costs in link order.
+// Writes the step sheet of new costs.
 ghost use mathlib.Core.Path.{_≡_};
 ghost use Prim.Native.Nat.{_+_, _≤_};
 ghost use lib.IntN.{pos, _-ℤ_};
 ghost use lib.ListN.{length};
 ghost use Rattle.limits.specs.Limits.{maxNumber};
-ghost use Rattle.frame.specs.Job.{bytesOf};
 ghost use Rattle.frame.specs.Services.{written};
-ghost use Rattle.codec.specs.Numbers.{numbersAt, Put, outcome};
+ghost use Rattle.codec.specs.Numbers.{Put, outcome};
 ghost use Rattle.sheet.specs.Sheet.{InRange, coded, movesOf, sheetFrame};
 ghost use Rattle.sheet.specs.Reading.{costsAt};
 ghost use Rattle.sheet.specs.EntryLaws.{entriesBytes};
@@ -101,25 +100,6 @@ pub fn write_sheet(edges: usize, old: &[u32; 256], new: &[u32; 256], area: &mut 
     }
     let behind = leb128_write::write_long(area, 0, count);
     let end = put_moves(area, behind, edges, old, new);
-    Reply {
-        refusal: 0,
-        length: end,
-    }
-}
-
-// Writes the costs of the first `edges` links; question 7. A cost takes at most three bytes: where the area has room for that,
-// they are not measured.
-pub fn write_costs(edges: usize, costs: &[u32; 256], area: &mut [u8]) -> Reply
-    requires { ⌜ edges ≤ 256 ⌝ }
-    ensures { λ r. ⌜ outcome r (now (area .exit)) ≡ written 0 (bytesOf (numbersAt edges (now (costs .entry)))) 0 (now (area .entry)) ⌝ }
-{
-    if area.len() < 3 * edges {
-        let total = codec::numbers_size(costs, edges);
-        if area.len() < total {
-            return refused(7);
-        }
-    }
-    let end = codec::write_numbers(area, 0, costs, edges);
     Reply {
         refusal: 0,
         length: end,

@@ -40,7 +40,7 @@ fn costs_held(header: Header, cost: &mut [u32; 256], sheet: &[u8], area: &mut [u
     if !sheet_read::apply_moves(sheet, edges, cost) {
         return refused(OWN_QUESTION);
     }
-    sheet_write::write_costs(edges, cost, area)
+    codec::write_list(cost, edges, area)
 }
 
 // Writes the sheet of the new costs of a job frame into the area, or refuses it and writes nothing.

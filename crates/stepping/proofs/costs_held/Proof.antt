@@ -1,5 +1,6 @@
 -- `stepping::costs_held` meets its contract: the sheet is applied and the costs written; a refusal writes nothing. Assumes nothing.
 use mathlib.Core.Path.{_∙_}
+use native.Mathlib.Omega.{arith}
 use borrow.Author.Needs.{needs}
 use borrow.Author.Tests.{not-true, not-false}
 use Rattle.sheet_read.specs.ApplyLaws.{given-some, given-none}
@@ -42,10 +43,10 @@ returns-2 c =
     (costs-eight k (a .sheet .now) (a .area .now) (e .if1 .left)
     (given-none _ _ _ (not-true (v .apply-moves .result) (c .before .if2 .taken)) (v .apply-moves .ensures))))
 
-write-costs-requires : tie.Need-write-costs-requires
-write-costs-requires c κs =
-    let e = c .before .before .before .before .before .before in
-    e .before .before .before .pre (e .if1 .left) .few
+write-list-requires : tie.Need-write-list-requires
+write-list-requires c κs =
+    let e = c .before .before .before .before .before .before .before in
+    omega (arith, e .before .before .before .pre (e .if1 .left) .few)
 
 same-length : tie.Need-same-length
 same-length c = search needs
@@ -53,13 +54,13 @@ same-length c = search needs
 returns-3 : tie.Need-returns-3
 returns-3 c =
     let w = c .before .before in
-    let u = w .before .before .before in
+    let u = w .before .before .before .before in
     let v = u .before in
     let e = v .before .before .before in
     let a = e .before .before .before .args in
     λ s k.
     sheet-applied-of s (a .sheet .now) (a .area .now) (k .bytes) (λ i. e .before .before .shared-slice-known .given i .fits) _ _
-    (w .write-costs .ensures ∙ costs-whole k (a .sheet .now) (a .area .now) (e .if1 .left) (v .apply-moves .last .1 .1 .0)
+    (w .write-list .ensures ∙ costs-whole k (a .sheet .now) (a .area .now) (e .if1 .left) (v .apply-moves .last .1 .1 .0)
     (given-some _ _ _ (not-false (v .apply-moves .result) (u .if2 .left)) (v .apply-moves .ensures)))
 
 pub costs-held-spec : {M : Type 1} → statement M
@@ -72,6 +73,6 @@ costs-held-spec =
     apply-moves-requires
     refused-requires-2
     returns-2
-    write-costs-requires
+    write-list-requires
     same-length
     returns-3)
