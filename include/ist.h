@@ -13,11 +13,11 @@
  * - enough stack. Measured on x86-64 (bench/stack), rounded up to the next 100 bytes:
  *     ist_answer        16,000    ist_answer_list        20,100
  *     ist_judge          8,100    ist_judge_list         16,300
- *     ist_judge_answer   8,100    ist_judge_answer_list  16,300
- *     ist_find_link      8,100    ist_find_cost_list     16,400
- *     ist_find_cost      8,200    ist_write_job          20,400
- *     ist_read_job      15,300    ist_read_answer        11,400
- *     ist_sheet          9,200    ist_apply_sheet         8,200
+ *     ist_judge_answer   8,200    ist_judge_answer_list  16,300
+ *     ist_find_link      6,600    ist_find_cost_list     16,400
+ *     ist_find_cost      8,200    ist_write_job          16,300
+ *     ist_read_job      13,700    ist_read_answer        11,400
+ *     ist_sheet          7,600    ist_apply_sheet         6,600
  *
  * Results. A refusal is the first "no" of the questions put, by the numbers below: 1 to 6 to the job, then 8 to the costs or the
  * sheet that come with it, and 7 last. It writes nothing into an area or an array. A judge's yes is 0, like success; its no is
