@@ -30,9 +30,9 @@ abbrev pub acceptedHeader : List ℕ → Header
 acceptedHeader s = header (refusal s) (jobOf s)
 
 -- What the arrays hold of an accepted job: its tree links by rank and its tree paths with its links, or its links alone.
-abbrev pub Kept : Bool → Job → ℕ → ℕ → Arrays → Type 0
-Kept true j nodes edges a = Held j nodes edges a
-Kept false j nodes edges a = Stored j nodes edges (a .links)
+abbrev pub HeldAs : Bool → Job → ℕ → ℕ → Arrays → Type 0
+HeldAs true j nodes edges a = Held j nodes edges a
+HeldAs false j nodes edges a = Stored j nodes edges (a .links)
 
 -- The frame s has been asked questions 1 to 6: what they said, and an accepted job in the arrays.
 pub record Asked (s : List ℕ) (h : Header) (a : Arrays) : Type 0 where

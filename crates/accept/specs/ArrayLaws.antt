@@ -33,7 +33,7 @@ use Rattle.links.specs.ColumnLaws.{column-held, length-zeros}
 use Rattle.links.specs.ListLaws.{list-links}
 use Rattle.held.specs.Held.{Stored}
 use Rattle.held.specs.HeldLaws.{graph-stored, stored-job}
-use Rattle.accept.specs.Accepting.{Empty, treeRefusal, Kept}
+use Rattle.accept.specs.Accepting.{Empty, treeRefusal, HeldAs}
 
 abbrev placesOf : List ℕ → ℕ → ℕ
 placesOf l e = getD l e 0
@@ -204,7 +204,7 @@ module _ {j : Job} {n m : ℕ} {c : Columns} (k : Stored j n m c) where
         -- Listed by rank, they are held with their paths.
         pub tree-kept :
             (ranked : Bool) → take count ts ≡ treeEdges ranked m (c .cost) (c .mark)
-            → (mask : List ℕ) → Walked n count ts (c .end₁) (c .end₂) n mask → Kept ranked j n m (record { links = c; ranks = ts; mask = mask })
+            → (mask : List ℕ) → Walked n count ts (c .end₁) (c .end₂) n mask → HeldAs ranked j n m (record { links = c; ranks = ts; mask = mask })
         tree-kept true listed mask w =
             let last : n - 1 ≡ count = omega (arith, count-right) in
             let ts-are = listed ∙ ranks-are in

@@ -6,7 +6,7 @@ ghost use Rattle.frame.specs.Job.{Job};
 ghost use Rattle.frame.specs.Questions.{jobOf, jobRefusal};
 ghost use Rattle.frame.specs.Arrays.{columns, arrays};
 ghost use Rattle.held.specs.Held.{Stored};
-ghost use Rattle.accept.specs.Accepting.{Empty, Kept, acceptedHeader};
+ghost use Rattle.accept.specs.Accepting.{Empty, HeldAs, acceptedHeader};
 use job::Header;
 use job::refused_header;
 
@@ -28,7 +28,8 @@ pub fn job_refusal(
     ensures refusal { λ r. ⌜ ((j : Job) → Stored j nodes edges (columns (now (end1 .entry)) (now (end2 .entry)) (now (cost .entry)) (now (mark .entry)))
         → r ≡ jobRefusal j) ⌝ }
     ensures held { λ r. ⌜ ((j : Job) → Stored j nodes edges (columns (now (end1 .entry)) (now (end2 .entry)) (now (cost .entry)) (now (mark .entry)))
-        → r ≡ 0 → Kept ranked j nodes edges (arrays (now (end1 .entry)) (now (end2 .entry)) (now (cost .entry)) (now (mark .entry)) (now (ts .exit)) (now (mask .exit)))) ⌝ }
+        → r ≡ 0 → HeldAs ranked j nodes edges
+        (arrays (now (end1 .entry)) (now (end2 .entry)) (now (cost .entry)) (now (mark .entry)) (now (ts .exit)) (now (mask .exit)))) ⌝ }
 {
     let wrong = links::links_refusal(nodes, edges, end1, end2, mark);
     if wrong != 0 {
@@ -54,7 +55,7 @@ pub fn accept(
 ) -> Header
     requires { ⌜ Empty (arrays (now end1) (now end2) (now cost) (now mark) (now ts) (now mask)) ⌝ }
     ensures header { λ r. ⌜ r ≡ acceptedHeader (now (frame .entry)) ⌝ }
-    ensures job { λ r. ⌜ (r .refusal ≡ 0 → Kept ranked (jobOf (now (frame .entry))) (r .nodes) (r .edges)
+    ensures job { λ r. ⌜ (r .refusal ≡ 0 → HeldAs ranked (jobOf (now (frame .entry))) (r .nodes) (r .edges)
         (arrays (now (end1 .exit)) (now (end2 .exit)) (now (cost .exit)) (now (mark .exit)) (now (ts .exit)) (now (mask .exit)))) ⌝ }
 {
     let header = job::load_job(frame, end1, end2, cost, mark);

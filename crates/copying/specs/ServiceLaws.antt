@@ -85,8 +85,8 @@ module _ (s room : List ℕ) (r : JobRead) (g : JobGiven s r) where
   number = ap (λ (r : JobRead). r .refusal) (g .said) ∙ given-number (refusal s) (jobOf s)
 
   -- A frame that is refused.
-  pub job-refused : (r .refusal ≡ 0 → ⊥) → (x : JobCopy) → x ≡ refusedCopy (r .refusal) → JobCopied s room x room
-  job-refused n x e =
+  pub job-copy-refused : (r .refusal ≡ 0 → ⊥) → (x : JobCopy) → x ≡ refusedCopy (r .refusal) → JobCopied s room x room
+  job-copy-refused n x e =
       let (said, links) = told-refused (flatMap fields (jobOf s .links)) room (jobOf s) (refusal s) (λ z. n (number ∙ z)) in
       record { said = e ∙ ap refusedCopy number ∙ said; links = links; given = same-given }
 

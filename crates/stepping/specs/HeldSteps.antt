@@ -65,7 +65,9 @@ module _ {s : List ℕ} {h : Header} {cs : List ℕ} (k : AskedCosts s h cs) (f 
         → record { refusal = 8; size = 0; area = area } ≡ written (later (refusal s) (isSome o) 8) bytes 0 area
     eight o bytes e = ap (λ (r : ℕ). written r bytes 0 area) (sym (asked-not (refusal s) o (number ∙ z) e))
 
-    whole : (o : Option (List ℕ)) (bytes : List ℕ) → o ≡ some bytes → written 0 bytes 0 area ≡ written (later (refusal s) (isSome o) 8) (Option·getD o []) 0 area
+    whole :
+        (o : Option (List ℕ)) (bytes : List ℕ) → o ≡ some bytes
+        → written 0 bytes 0 area ≡ written (later (refusal s) (isSome o) 8) (Option·getD o []) 0 area
     whole o bytes e = let q = number ∙ z in sym (λ i. written (later (q i) (isSome (e i)) 8) (Option·getD (e i) []) 0 area)
 
     -- The costs that go in.

@@ -66,10 +66,11 @@ returns-3 c =
     let q = c .before in
     let t = q .before .before .before in
     let f = t .before .before in
+    let ranked = f .before .before .args .ranked in
     let yes = not-false _ (c .if2 .left) in (
       λ j k. tree-right k (passed f k) (listed t k) (q .question6 .result) (q .question6 .ensures .0) yes,
       λ j k _.
-          tree-kept k (passed f k) (listed t k) (q .question6 .result) (q .question6 .ensures .0) yes (f .before .before .args .ranked) (t .tree-edges .ensures .1 .0)
+          tree-kept k (passed f k) (listed t k) (q .question6 .result) (q .question6 .ensures .0) yes ranked (t .tree-edges .ensures .1 .0)
           (q .question6 .last .1 .1 .1 .1 .1 .0) (q .question6 .ensures .1 yes),
     )
 

@@ -58,7 +58,9 @@ no-contents-requires : tie.Need-no-contents-requires
 no-contents-requires c κs = search needs
 
 returns : tie.Need-returns
-returns c = no-answer _ _ _ _ _ (c .no-contents .ensures) (answer-unread _ _ (sym (c .before .before .before .read-long .ensures) ∙ c .before .enum-told .given .1))
+returns c =
+    let unread = sym (c .before .before .before .read-long .ensures) ∙ c .before .enum-told .given .1 in
+    no-answer _ _ _ _ _ (c .no-contents .ensures) (answer-unread _ _ unread)
 
 sub-part : tie.Need-sub-part
 sub-part c = steps-within _ _ _ (steps (c .before))

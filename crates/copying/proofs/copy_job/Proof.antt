@@ -5,7 +5,7 @@ use Prim.Native.Nat.{_*_, _<_, _≤_}
 use lib.ListN.{length}
 use borrow.Author.Needs.{needs}
 use Rattle.number.specs.Number.{Bytes}
-use Rattle.copying.specs.ServiceLaws.{job-refused, job-unfit, job-fit, job-few}
+use Rattle.copying.specs.ServiceLaws.{job-copy-refused, job-unfit, job-fit, job-few}
 use Rattle.copying.proofs.copy_job.Statement.{statement}
 use Rattle.copying.proofs.copy_job.Tie as tie
 
@@ -23,7 +23,7 @@ returns : tie.Need-returns
 returns c =
     let t = c .before .before in
     let a = t .before .before .before .args in
-    job-refused (a .frame .now) (a .links .now) (t .read-job .result) (t .read-job .ensures) (c .before .if1 .taken) _ (c .refused-copy .ensures)
+    job-copy-refused (a .frame .now) (a .links .now) (t .read-job .result) (t .read-job .ensures) (c .before .if1 .taken) _ (c .refused-copy .ensures)
 
 refused-copy-requires-2 : tie.Need-refused-copy-requires-2
 refused-copy-requires-2 c κs = search needs
