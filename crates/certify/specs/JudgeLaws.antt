@@ -22,12 +22,11 @@ use Rattle.graph.specs.RankLaws.{tree-lists}
 use Rattle.graph.specs.Paths.{rooted, coversRank, judge}
 use Rattle.optimum.specs.Optimum.{Pair, Answer, Rising}
 use Rattle.optimum.specs.PairLaws.{rising-count}
-use Rattle.optimum.specs.Solve.{gap}
 use Rattle.paths.specs.Arrays.{arrayGraph, arrayTree, arrayCost, paths}
 use Rattle.paths.specs.RootLaws.{across-covers}
 use Rattle.frame.specs.Job.{Job}
 use Rattle.frame.specs.Arrays.{Arrays}
-use Rattle.frame.specs.Answers.{pairFrom, noPair, rankOf, pairHolds, pairsRise, pairsWeight, answerHolds, readAnswer, judgeRead, judgeAnswer}
+use Rattle.frame.specs.Answers.{pairFrom, noPair, rankOf, pairHolds, pairsRise, pairsWeight, gap, answerHolds, readAnswer, judgeRead, judgeAnswer}
 use Rattle.answer_read.specs.declared.Contents.{Contents}
 use Rattle.codec.specs.Held.{pairsAt}
 use Rattle.answer_read.specs.Reading.{contents, few}

@@ -33,7 +33,7 @@ pub fn certify(
     }
     let steps = found.steps as u64;
     let count = found.count;
-    if solution::steps(edges, cost, &costs) != steps {
+    if weighing::steps(edges, cost, &costs) != steps {
         return false;
     }
     if !cheapest::judge_unsorted(edges, ts, trees, end1, end2, &costs, mark, mask) {

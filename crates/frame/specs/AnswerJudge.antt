@@ -25,10 +25,9 @@ use Rattle.graph.specs.RankLaws.{tree-lists}
 use Rattle.graph.specs.Tree.{covers-means, judge-means}
 use Rattle.optimum.specs.Optimum.{Pair, both, IsPair, Matching, Rising, Falls, weight, deviation, Answer}
 use Rattle.optimum.specs.PairLaws.{rising-apart, falls-weight}
-use Rattle.optimum.specs.Solve.{gap}
 use Rattle.optimum.specs.Distance.{distance-is}
 use Rattle.frame.specs.Job.{Job, graphOf, treeOf, costOf}
-use Rattle.frame.specs.Answers.{readAnswer, rankOf, pairHolds, noPair, pairsRise, pairsWeight, answerHolds, judgeRead, judgeAnswer, judgeTree}
+use Rattle.frame.specs.Answers.{readAnswer, rankOf, pairHolds, noPair, pairsRise, pairsWeight, gap, answerHolds, judgeRead, judgeAnswer, judgeTree}
 use Rattle.frame.specs.Meaning.{Accepted}
 use Rattle.frame.specs.AnswerMeaning.{Certificate, Certified}
 use Rattle.frame.specs.AnswerLayout.{layout-read, read-means}

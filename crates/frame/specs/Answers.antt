@@ -13,7 +13,7 @@ use Rattle.graph.specs.Graph.{Graph, EdgeSet, spareOf}
 use Rattle.graph.specs.Rank.{treeRanks}
 use Rattle.graph.specs.Paths.{rooted, coversRank, judge}
 use Rattle.optimum.specs.Optimum.{Pair, Answer}
-use Rattle.optimum.specs.Solve.{gap, solve}
+use Rattle.optimum.specs.Solve.{solve}
 use Rattle.frame.specs.Job.{Job, graphOf, treeOf, costOf}
 use Rattle.limits.specs.Limits.{stepBytes}
 use Rattle.frame.specs.Questions.{numbers}
@@ -74,6 +74,10 @@ pairsRise ps =
 
 abbrev pub pairsWeight : (ℕ → ℕ) → List Pair → ℕ
 pairsWeight c ps = sum (length ps) (λ i. c (getD ps i noPair .tree) - c (getD ps i noPair .spare))
+
+-- The absolute difference of two natural numbers.
+abbrev pub gap : ℕ → ℕ → ℕ
+gap x y = (x - y) + (y - x)
 
 unfoldable pub answerHolds : Graph → EdgeSet → (ℕ → ℕ) → List ℕ → Answer → Bool
 answerHolds g tr c ranks a =

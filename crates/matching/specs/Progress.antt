@@ -1,21 +1,23 @@
 -- The matching in progress as the code holds it, in the words of the model, and what the functions that build it promise.
 -- Definitions only. Assumes nothing.
-use Prim.Native.Nat.{ℕ, _≤_, _<_}
+use Prim.Native.Nat.{ℕ, _+_, _-_, _≤_, _<_}
 use mathlib.Core.Path.{_≡_}
-use mathlib.Core.Bool.{Bool, false, _&&_}
+use mathlib.Core.Bool.{Bool, false, cond}
 use mathlib.Core.List.{List}
 use lib.Dec.{ltb}
 use lib.ListN.{length, getD}
 use Rattle.graph.specs.Rank.{costAt}
 use Rattle.bits.specs.Bit.{bit}
 use Rattle.sets.specs.Sets.{member}
-use Rattle.optimum.specs.Search.{Problem, search, Progress, augment, matching}
+use Rattle.optimum.specs.Search.{Problem, search, Progress, augment, built, matching}
+use Rattle.optimum.specs.Slackness.{Ranked, rankWeight}
 use Rattle.search.specs.State as S
 use Rattle.search.specs.State.{arrayMates, stateOf, Below, Taken, Rows}
 
--- The mates, the tree ranks that searches which failed have seen, and the matched spare ranks that they have not.
-abbrev pub progressOf : List ℕ → ℕ → List ℕ → Progress
-progressOf mates trees live = record { mates = arrayMates mates; treeDead = bit trees; spareLive = member live }
+-- The mates, the tree ranks that searches which failed have seen, the matched spare ranks that they have not, and the
+-- running weight.
+abbrev pub progressOf : List ℕ → ℕ → List ℕ → ℕ → Progress
+progressOf mates trees live weight = record { mates = arrayMates mates; weight = weight; treeDead = bit trees; spareLive = member live }
 
 -- The first n ranks are numbers of edges.
 abbrev pub Edges : ℕ → List ℕ → Type 0
@@ -28,9 +30,10 @@ pub record Holds (p : Problem) (spares : ℕ) (cost ts ss rows : List ℕ) : Typ
   pub tree-cost : (t : ℕ) → t < p .trees → p .treeCost t ≡ costAt cost ts t
   pub spare-cost : (s : ℕ) → s < p .spares → p .spareCost s ≡ costAt cost ss s
 
--- The goal is worth a search from tree rank t: there is one, and it costs less.
-abbrev pub gain : ℕ → List ℕ → List ℕ → List ℕ → ℕ → ℕ → Bool
-gain spares cost ts ss t goal = ltb goal spares && ltb (costAt cost ss goal) (costAt cost ts t)
+-- What the weight gains by a chain from tree rank t to the goal: what t costs above it. 0 if there is no such goal, or if
+-- it costs no less.
+abbrev pub gain : ℕ → List ℕ → List ℕ → List ℕ → ℕ → ℕ → ℕ
+gain spares cost ts ss t goal = cond (ltb goal spares) (costAt cost ts t - costAt cost ss goal) 0
 
 -- No tree rank from n on was seen.
 abbrev pub Unseen : ℕ → ℕ → Type 0
@@ -70,8 +73,9 @@ pub record Augmentable (t spares : ℕ) (ts ss mates taken : List ℕ) (trees : 
   pub below : Below 64 mates
   pub taken-are : Taken mates taken
 
--- What it leaves: sizes, and the model's progress.
-pub record Augmented (t spares : ℕ) (cost ts ss rows mates : List ℕ) (trees : ℕ) (live mates′ taken′ : List ℕ) (trees′ : ℕ) (live′ : List ℕ) : Type 0 where
+-- What it leaves: sizes, and the model's progress. The weight, whatever it was, has gained what is handed back.
+pub record Augmented (t spares : ℕ) (cost ts ss rows mates : List ℕ) (trees : ℕ) (live mates′ taken′ : List ℕ) (trees′ : ℕ) (live′ : List ℕ) (gained : ℕ) :
+    Type 0 where
   pub mates-length : length mates′ ≡ 256
   pub taken-length : length taken′ ≡ 4
   pub live-length : length live′ ≡ 4
@@ -79,8 +83,8 @@ pub record Augmented (t spares : ℕ) (cost ts ss rows mates : List ℕ) (trees 
   pub unseen : (n : ℕ) → t < n → Below n mates → Unseen n trees → Unseen n trees′
   pub taken-are : Taken mates′ taken′
   pub equal :
-      (p : Problem) → Holds p spares cost ts ss rows → Below (p .trees) mates → t < p .trees
-      → progressOf mates′ trees′ live′ ≡ augment p t (progressOf mates trees live)
+      (weight : ℕ) (p : Problem) → Holds p spares cost ts ss rows → Below (p .trees) mates → t < p .trees
+      → progressOf mates′ trees′ live′ (weight + gained) ≡ augment p t (progressOf mates trees live weight)
 
 -- What building a matching needs: room for it, and nothing in it yet.
 pub record Buildable (trees spares : ℕ) (ts ss mates taken : List ℕ) : Type 0 where
@@ -93,10 +97,18 @@ pub record Buildable (trees spares : ℕ) (ts ss mates taken : List ℕ) : Type 
   pub empty : (s : ℕ) → getD mates s 0 ≡ 0
   pub none-taken : (s : ℕ) → member taken s ≡ false
 
--- What it leaves: the model's matching, and the set of its spare ranks.
-pub record Built (trees spares : ℕ) (cost ts ss rows mates taken : List ℕ) : Type 0 where
+-- The weight is what the pairs add up to afresh: over all spare ranks, what the mate costs above the spare.
+abbrev pub Weighs : ℕ → ℕ → List ℕ → List ℕ → List ℕ → List ℕ → List ℕ → ℕ → Type 0
+Weighs trees spares cost ts ss rows mates weight =
+    (p : Problem) → p .trees ≡ trees → Holds p spares cost ts ss rows → Ranked p → weight ≡ rankWeight p (arrayMates mates)
+
+-- What it leaves: the model's matching, the set of its spare ranks, and its weight: the model's running one, which is
+-- that of the pairs.
+pub record Built (trees spares : ℕ) (cost ts ss rows mates taken : List ℕ) (weight : ℕ) : Type 0 where
   pub mates-length : length mates ≡ 256
   pub taken-length : length taken ≡ 4
   pub below : Below trees mates
   pub taken-are : Taken mates taken
   pub equal : (p : Problem) → p .trees ≡ trees → Holds p spares cost ts ss rows → arrayMates mates ≡ matching p
+  pub last : (p : Problem) → p .trees ≡ trees → Holds p spares cost ts ss rows → weight ≡ built p (p .trees) .weight
+  pub weighs : Weighs trees spares cost ts ss rows mates weight

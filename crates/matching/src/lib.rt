@@ -7,26 +7,31 @@ ghost use Prim.Native.Nat.{_<_, _≤_};
 ghost use lib.ListN.{getD};
 ghost use Rattle.matching.specs.Progress.{Seekable, Sought, Augmentable, Augmented, Buildable, Built, Edges, gain};
 
-// Is there a goal, and does it cost less than tree rank `t`?
-fn gains(
+// What tree rank `t` costs above the goal; 0 if there is no such goal, or if it costs no less.
+fn gain(
     t: TreeRank,
     goal: SpareRank,
     spares: u32,
     cost: &[u32; 256],
     ts: &[u32; 256],
     ss: &[u32; 256],
-) -> bool
+) -> u32
     requires { ⌜ (t .0 < 64) × (spares ≤ 256) × (getD (now ts) (t .0) 0 < 256) × Edges spares (now ss) ⌝ }
     ensures { λ r. ⌜ r ≡ gain spares (now (cost .entry)) (now (ts .entry)) (now (ss .entry)) (t .0) (goal .0) ⌝ }
 {
     if spares <= goal.0 {
-        return false;
+        return 0;
     }
     let spare = ss[goal.0 as usize];
     let tree = ts[t.0 as usize];
     let e = Edge(spare);
     let f = Edge(tree);
-    cost[e.0 as usize] < cost[f.0 as usize]
+    let low = cost[e.0 as usize];
+    let high = cost[f.0 as usize];
+    if high <= low {
+        return 0;
+    }
+    high - low
 }
 
 // Matches tree rank `t` along an alternating path to the goal, if one leads there. Was the goal met?
@@ -50,8 +55,9 @@ fn seek(
     false
 }
 
-// Matches tree rank `t`, if the cheapest unmatched spare rank that alternating paths lead to costs less. The cheapest of
-// all is tried first; if paths lead to none that gains, what the search has seen is given up for good.
+// Matches tree rank `t`, if the cheapest unmatched spare rank that alternating paths lead to costs less, and hands back what
+// the weight gains by that. The cheapest of all is tried first; if paths lead to none that gains, what the search has seen
+// is given up for good.
 fn augment(
     t: TreeRank,
     spares: u32,
@@ -63,14 +69,15 @@ fn augment(
     taken: &mut [u64; 4],
     tree_dead: &mut u64,
     live: &mut [u64; 4],
-)
+) -> u32
     requires { ⌜ Augmentable (t .0) spares (now ts) (now ss) (now mates) (now taken) (now «tree_dead») (now live) ⌝ }
     ensures { λ r. ⌜ Augmented (t .0) spares (now (cost .entry)) (now (ts .entry)) (now (ss .entry)) (now (rows .entry)) (now (mates .entry))
-        (now («tree_dead» .entry)) (now (live .entry)) (now (mates .exit)) (now (taken .exit)) (now («tree_dead» .exit)) (now (live .exit)) ⌝ }
+        (now («tree_dead» .entry)) (now (live .entry)) (now (mates .exit)) (now (taken .exit)) (now («tree_dead» .exit)) (now (live .exit)) r ⌝ }
 {
     let cheapest = sets::lowest_free(taken);
-    if !gains(t, SpareRank(cheapest), spares, cost, ts, ss) {
-        return;
+    let most = gain(t, SpareRank(cheapest), spares, cost, ts, ss);
+    if most == 0 {
+        return 0;
     }
     let mut tree_seen = *tree_dead;
     let mut left = *live;
@@ -84,11 +91,12 @@ fn augment(
         &mut left,
     ) {
         sets::insert(live, cheapest);
-        return;
+        return most;
     }
     let new_trees = bits::less(tree_seen, *tree_dead);
     let goal = set_rows::lowest_covering(rows, new_trees, taken);
-    if gains(t, SpareRank(goal), spares, cost, ts, ss) {
+    let gained = gain(t, SpareRank(goal), spares, cost, ts, ss);
+    if gained != 0 {
         tree_seen = *tree_dead;
         left = *live;
         seek(
@@ -101,13 +109,15 @@ fn augment(
             &mut left,
         );
         sets::insert(live, goal);
-        return;
+        return gained;
     }
     *tree_dead = tree_seen;
     *live = left;
+    0
 }
 
-// Builds the matching in `mates`, which is empty, and the set of its spare ranks: every tree rank in turn.
+// Builds the matching in `mates`, which is empty, and the set of its spare ranks: every tree rank in turn. Hands back its
+// weight, kept as chains are found.
 pub fn build(
     trees: u32,
     spares: u32,
@@ -117,15 +127,17 @@ pub fn build(
     rows: &[u64; 256],
     mates: &mut [u32; 256],
     taken: &mut [u64; 4],
-)
+) -> u64
     requires { ⌜ Buildable trees spares (now ts) (now ss) (now mates) (now taken) ⌝ }
-    ensures { λ r. ⌜ Built trees spares (now (cost .entry)) (now (ts .entry)) (now (ss .entry)) (now (rows .entry)) (now (mates .exit)) (now (taken .exit)) ⌝ }
+    ensures { λ r. ⌜ Built trees spares (now (cost .entry)) (now (ts .entry)) (now (ss .entry)) (now (rows .entry)) (now (mates .exit))
+        (now (taken .exit)) r ⌝ }
 {
     let mut tree_dead = 0u64;
     let mut live = [0u64; 4];
+    let mut weight = 0u64;
     let mut t = 0;
     while t < trees {
-        augment(
+        let gained = augment(
             TreeRank(t),
             spares,
             cost,
@@ -137,6 +149,8 @@ pub fn build(
             &mut tree_dead,
             &mut live,
         );
+        weight += gained as u64;
         t += 1;
     }
+    weight
 }

@@ -1,6 +1,6 @@
 -- One tree rank more keeps the invariant: the potentials are raised on what its search has visited, and it is matched
 -- along an alternating path or stays unmatched. Assumes nothing.
-use Prim.Native.Nat.{ℕ, suc, _≤_, _<_, max}
+use Prim.Native.Nat.{ℕ, suc, _+_, _≤_, _<_, max}
 use native.Mathlib.Decide.{ℕ-discrete, decLt}
 use native.Mathlib.Omega.{arith}
 use mathlib.Core.Path.{_≡_, refl, sym, _∙_}
@@ -13,16 +13,18 @@ use Rattle.loops.specs.TestLaws.{truth, clash, and-first, and-second, and-both,
 use Rattle.loops.specs.PutLaws.{put-same, put-other}
 use Rattle.loops.specs.FirstLaws.{First, first-is}
 use Rattle.optimum.specs.Search.{Problem, Mates, Search, search, Progress, begun, coversSome}
-use Rattle.optimum.specs.Search.{newTrees, goalOf, cheapestOf, worth, turned, augmentReached, augment}
-use Rattle.optimum.specs.Slackness.{Ranked}
+use Rattle.optimum.specs.Search.{newTrees, goalOf, cheapestOf, worth, turned, givenUp, augmentReached, augment}
+use Rattle.optimum.specs.Slackness.{Ranked, rankWeight}
 use Rattle.optimum.specs.SearchLaws.{AugmentingPath, stop, via, Kept, TreeClosed, SpareClosed}
 use Rattle.optimum.specs.SearchLaws.{Explored, Always, search-fails, search-turns, search-explores, search-meets}
 use Rattle.optimum.specs.Matched.{Mate, mate, free, pair}
 use Rattle.optimum.specs.Invariant.{Pairs, Done, path-turns}
 
--- Tree ranks below n are done. What failed searches have visited is too dear for every tree rank to come.
+-- Tree ranks below n are done. The running weight is that of the matching, added up afresh. What failed searches have
+-- visited is too dear for every tree rank to come.
 pub record Invariant (p : Problem) (n : ℕ) (pr : Progress) (d : ℕ → ℕ) : Type 0 where
   pub pairs : Pairs p n (pr .mates) d
+  pub weighs : pr .weight ≡ rankWeight p (pr .mates)
   pub done : (t : ℕ) → t < n → Done p (pr .mates) d t
   pub dead : (x : ℕ) → pr .treeDead x ≡ true → x < n
   pub high-spare : (s t : ℕ) → s < p .spares → pr .spareLive s ≡ false → pr .mates s ≢ 0 → n ≤ t → t < p .trees → p .treeCost t ≤ d s
@@ -167,6 +169,7 @@ module _
         stay-keeps e =
             record {
               pairs = raised-pairs;
+              weighs = inv .weighs;
               done = λ x k. settled e x (raised-done x k);
               dead = λ x q. omega (arith, inv .dead x q);
               high-spare = still-high-spare;
@@ -176,10 +179,11 @@ module _
         -- The search has failed: what it has visited is given up.
         fail-keeps :
             v ≡ p .treeCost t →
-            Invariant p (suc t) (record { mates = pr .mates; treeDead = all .treeSeen; spareLive = λ s. not (all .spareSeen s) }) new
+            Invariant p (suc t) (givenUp pr all) new
         fail-keeps e =
             record {
               pairs = raised-pairs;
+              weighs = inv .weighs;
               done = λ x k. settled e x (raised-done x k);
               dead = λ x q. elim (explored .grown .new-tree x q) [ inl h ↦ omega (arith, inv .dead x h) | inr h ↦ h .holds ];
               high-spare = λ s x k q m j b. omega (arith, raised-seen s (not-false (all .spareSeen s) q) m, ranked .fall t x (omega arith) b);
@@ -198,10 +202,11 @@ module _
             p .spareCost goal < p .treeCost t →
             pr .mates goal ≡ 0 →
             AugmentingPath p goal (pr .mates) (pr .mates) t (st .mates) →
-            Invariant p (suc t) (turned pr goal st) new
+            Invariant p (suc t) (turned p t pr goal st) new
         meet-keeps goal st k e c f π =
             record {
               pairs = flipped .0;
+              weighs = omega (arith, inv .weighs, flipped .2);
               done = flipped .1;
               dead = λ x q. omega (arith, inv .dead x q);
               high-spare = λ s x j q m a b. elim (ℕ-discrete s goal) [
@@ -213,7 +218,9 @@ module _
               high-tree = still-high-tree;
             }
           where
-            flipped : Pairs p (suc t) (st .mates) new × ((x : ℕ) → x < suc t → Done p (st .mates) new x)
+            flipped :
+                Pairs p (suc t) (st .mates) new × ((x : ℕ) → x < suc t → Done p (st .mates) new x) ×
+                (rankWeight p (st .mates) + p .spareCost goal ≡ rankWeight p (pr .mates) + p .treeCost t)
             flipped =
                 path-turns p goal (suc t) (pr .mates) new raised-feasible f
                 (λ x j. omega (arith, ranked .fall x t (omega arith) l, raised-free goal k f))
@@ -269,7 +276,7 @@ module _
         cheapest < p .spares →
         p .spareCost cheapest < p .treeCost t →
         search p cheapest t (begun pr) .met ≡ true →
-        Keeps (turned pr cheapest (search p cheapest t (begun pr)))
+        Keeps (turned p t pr cheapest (search p cheapest t (begun pr)))
     met-cheapest a b m =
         let cheap : (x s : ℕ) → s < p .spares → newTrees pr all x ≡ true → p .covers x s ≡ true → pr .mates s ≡ 0 → p .spareCost cheapest ≤ p .spareCost s = λ
         x s k q c e. cheapest-least s k e .1 in (
@@ -340,7 +347,7 @@ module _
           search-meets p (begun pr) mate-below refl t cheapest goal x missed (and-first _ _ q) (not-true _ (and-second (reached .treeSeen x) _ q)) a c
 
       -- The goal costs less than tree rank t, or it does not, or there is none.
-      met-goal : goal < p .spares → p .spareCost goal < p .treeCost t → Keeps (turned pr goal (search p goal t (begun pr)))
+      met-goal : goal < p .spares → p .spareCost goal < p .treeCost t → Keeps (turned p t pr goal (search p goal t (begun pr)))
       met-goal a b =
           let cheap : (x s : ℕ) → s < p .spares → newTrees pr reached x ≡ true → p .covers x s ≡ true → pr .mates s ≡ 0 → p .spareCost goal ≤ p .spareCost s =
           λ x s k q c e. goal-least x s k q c e .1 in (
@@ -351,7 +358,7 @@ module _
 
       failed :
           (goal < p .spares → p .treeCost t ≤ p .spareCost goal) →
-          Keeps (record { mates = pr .mates; treeDead = reached .treeSeen; spareLive = λ s. not (reached .spareSeen s) })
+          Keeps (givenUp pr reached)
       failed h =
           let cheap : (x s : ℕ) → s < p .spares → newTrees pr reached x ≡ true → p .covers x s ≡ true → pr .mates s ≡ 0 → p .treeCost t ≤ p .spareCost s = λ x
           s k q c e. omega (arith, goal-least x s k q c e .1, h (goal-least x s k q c e .0)) in (

@@ -41,13 +41,13 @@ demand g sound live tr tree c =
     record {
       count = solve-count g tr c;
       minimum = solve-minimum g tr c sound tree;
-      steps = solve-steps g tr c;
+      steps = solve-steps g tr c live;
       fewest = solve-fewest g tr c live sound tree;
       lowest = solve-lowest g tr c live sound tree;
       matching = solve-matching g tr c sound tree;
       rising = solve-rising g tr c;
       falls = solve-falls g tr c;
-      weighs = solve-weighs g tr c live;
+      weighs = solve-weighs g tr c;
     }
 
 -- So the costs of an answer as demanded are the lowest best choice.

@@ -1,16 +1,17 @@
 -- The invariant of the matching while it is built: potentials of the non-tree ranks that certify it. How they are raised
--- on what a search has visited, and how an alternating path on which they are level turns the matching.
+-- on what a search has visited, and how an alternating path on which they are level turns the matching and its weight.
 -- Assumes nothing.
-use Prim.Native.Nat.{ℕ, suc, _≤_, _<_}
+use Prim.Native.Nat.{ℕ, suc, _+_, _-_, _≤_, _<_}
 use native.Mathlib.Decide.{ℕ-discrete}
 use native.Mathlib.Omega.{arith}
-use mathlib.Core.Path.{_≡_, sym, _∙_}
+use mathlib.Core.Path.{_≡_, ap, sym, _∙_}
 use mathlib.Core.Logic.{_≢_, _⊎_, inl, inr}
 use mathlib.Core.Bool.{true}
 use Rattle.loops.specs.Loop.{put}
+use Rattle.loops.specs.SumLaws.{sum-change}
 use Rattle.loops.specs.PutLaws.{put-same, put-other}
 use Rattle.optimum.specs.Search.{Problem, Mates}
-use Rattle.optimum.specs.Slackness.{Unmatched}
+use Rattle.optimum.specs.Slackness.{Unmatched, pairWeight, rankWeight}
 use Rattle.optimum.specs.Matched.{Matched}
 use Rattle.optimum.specs.SearchLaws.{AugmentingPath, stop, via}
 
@@ -132,8 +133,41 @@ path-rises p goal base d f (stop l c e) v h = h goal l c
 path-rises p goal base d f (via {s = s} {t′ = t′} l c b e π) v h =
     omega (arith, h s l c, path-rises p goal base d f π (d s) (λ s′ l′ c′. f s s′ t′ l l′ b c′))
 
+-- What non-tree rank s adds to the weight if it becomes the mate of tree rank t, and what it added before.
+weight-put :
+    (p : Problem) (m : Mates) (s t : ℕ) →
+    s < p .spares →
+    rankWeight p (put m s (suc t)) + pairWeight p s (m s) ≡ rankWeight p m + (p .treeCost t - p .spareCost s)
+unfolding pairWeight
+weight-put p m s t l =
+    let new : pairWeight p s (put m s (suc t) s) ≡ p .treeCost t - p .spareCost s = ap (pairWeight p s) (put-same m s (suc t)) in
+    omega (
+      arith,
+      new,
+      sum-change (p .spares) (λ s′. pairWeight p s′ (put m s (suc t) s′)) (λ s′. pairWeight p s′ (m s′)) s l
+          (λ j k q. ap (pairWeight p j) (put-other m s (suc t) j q)),
+    )
+
+-- The weight, if s was unmatched: t is one more.
+weight-more :
+    (p : Problem) (m : Mates) (s t : ℕ) →
+    s < p .spares →
+    m s ≡ 0 →
+    rankWeight p (put m s (suc t)) ≡ rankWeight p m + (p .treeCost t - p .spareCost s)
+unfolding pairWeight
+weight-more p m s t l e = omega (arith, weight-put p m s t l, ap (pairWeight p s) e)
+
+-- The weight, if s was the mate of another tree rank: t is in its place.
+weight-moved :
+    (p : Problem) (m : Mates) (s t t′ : ℕ) →
+    s < p .spares →
+    m s ≡ suc t′ →
+    rankWeight p (put m s (suc t)) + (p .treeCost t′ - p .spareCost s) ≡ rankWeight p m + (p .treeCost t - p .spareCost s)
+unfolding pairWeight
+weight-moved p m s t t′ l e = omega (arith, weight-put p m s t l, ap (pairWeight p s) e)
+
 -- The potentials do not fall from tree rank t to the goal, and the goal's is the least that t needs: so they are level, and
--- the matching that the path turns has t matched besides.
+-- the matching that the path turns has t matched besides. Its weight has gained what t costs above the goal.
 module _
     (p : Problem)
     (goal n : ℕ)
@@ -151,13 +185,15 @@ module _
         Unmatched p m t →
         ((s : ℕ) → s < p .spares → p .covers t s ≡ true → d goal ≤ d s) →
         ((x : ℕ) → x < n → (x ≡ t) ⊎ Done p m d x) →
-        Pairs p n m′ d × ((x : ℕ) → x < n → Done p m′ d x)
+        Pairs p n m′ d × ((x : ℕ) → x < n → Done p m′ d x) × (rankWeight p m′ + p .spareCost goal ≡ rankWeight p m + p .treeCost t)
     path-turns (stop {m = m} {t = t} l c e) g b u h f = (
       pairs-put p n m d g goal t l b c u h (dear t b),
-      λ x k. done-put p n m d g goal t l x (λ q. omega (arith, e)) (f x k),
+      (λ x k. done-put p n m d g goal t l x (λ q. omega (arith, e)) (f x k)),
+      omega (arith, weight-more p m goal t l (e ∙ free), dear t b, g .above goal l),
     )
     path-turns (via {m = m} {t = t} {s = s} {t′ = t′} l c b e π) g k u h f =
         let level : d s ≡ d goal = omega (arith, h s l c, path-rises p goal base d feasible π (d s) (λ s′ l′ c′. feasible s s′ t′ l l′ b c′)) in
+        let (pairs, done, gained) =
         path-turns π
         (pairs-put p n m d g s t l k c u (λ s′ l′ c′. omega (arith, h s′ l′ c′)) (omega (arith, dear t k)))
         (g .below s t′ l e)
@@ -171,4 +207,5 @@ module _
         elim (ℕ-discrete x t′) [
           | yes q ↦ inl q
           | no q ↦ inr (done-put p n m d g s t l x (λ r. q (omega (arith, e, r))) (f x j))
-        ])
+        ]) in
+        (pairs, done, omega (arith, gained, weight-moved p m s t t′ l e, dear t k, g .above s l, g .falls s t′ l e))

@@ -1,21 +1,23 @@
--- The matching of the model is valid, and costs exist that are slack with it: it is a best one.
+-- The matching of the model is valid, and costs exist that are slack with it: it is a best one. Its running weight is what
+-- its pairs add up to, at the start and after each chain.
 -- Assumes nothing.
-use Prim.Native.Nat.{ℕ, zero, suc, _+_, _≤_, _<_}
+use Prim.Native.Nat.{ℕ, zero, suc, _≤_, _<_}
 use native.Mathlib.Omega.{arith}
-use mathlib.Core.Path.{_≡_, refl, ap}
+use mathlib.Core.Path.{_≡_, refl, ap, sym}
 use mathlib.Core.Logic.{_⊎_, inl, inr}
 use mathlib.Core.Bool.{true}
 use lib.IntN.{pos}
-use Rattle.loops.specs.Loop.{scan}
+use Rattle.loops.specs.SumLaws.{sum-zero}
 use Rattle.loops.specs.TestLaws.{clash}
-use Rattle.optimum.specs.Search.{Problem, Mates, Progress, augment, unmatched, matching}
-use Rattle.optimum.specs.Slackness.{Ranked, Valid, RankCosts, Slack, Unmatched}
+use Rattle.optimum.specs.Search.{Problem, Mates, unmatched, built, matching}
+use Rattle.optimum.specs.Slackness.{Ranked, Valid, RankCosts, Slack, Unmatched, pairWeight, rankWeight}
 use Rattle.graph.specs.Integers.{pos-le}
 use Rattle.optimum.specs.Matched.{Matched, matched-view}
 use Rattle.optimum.specs.Invariant.{Pairs, Done}
 use Rattle.optimum.specs.Augment.{Invariant, augment-keeps}
 
 first-invariant : (p : Problem) → Invariant p 0 unmatched (p .spareCost)
+unfolding pairWeight
 first-invariant p =
     record {
       pairs =
@@ -29,24 +31,30 @@ first-invariant p =
             free = λ s l e. refl;
             under = λ s t l e. absurd (omega arith);
           };
+      weighs = sym (sum-zero (p .spares) (λ s. pairWeight p s 0) (λ s l. refl));
       done = λ t l. absurd (omega arith);
       dead = λ x q. clash q refl;
       high-spare = λ s t l q m a b. absurd (m refl);
       high-tree = λ x s t l q c a b. clash q refl;
     }
 
-all-augmented :
-    (p : Problem) →
-    Ranked p →
-    (turns t : ℕ) (pr : Progress) (d : ℕ → ℕ) →
-    t + turns ≡ p .trees →
-    Invariant p t pr d →
-    (d′ : ℕ → ℕ) × Pairs p (p .trees) (scan (augment p) turns t pr .mates) d′ × ((x : ℕ) → x < p .trees → Done p (scan (augment p) turns t pr .mates) d′ x)
-unfolding scan
-all-augmented p r zero t pr d e i = let q : t ≡ p .trees = omega arith in (d, rw q at (i .pairs), rw q at (i .done))
-all-augmented p r (suc turns) t pr d e i =
-    let next : (d′ : ℕ → ℕ) × Invariant p (suc t) (augment p t pr) d′ = augment-keeps p r t (omega arith) pr d i in
-    all-augmented p r turns (suc t) (augment p t pr) (next .0) (omega arith) (next .1)
+-- The invariant holds at the start and after every tree rank, and so after every chain.
+kept : (p : Problem) → Ranked p → (t : ℕ) → t ≤ p .trees → (d : ℕ → ℕ) × Invariant p t (built p t) d
+unfolding built
+kept p r zero l = (p .spareCost, first-invariant p)
+kept p r (suc t) l =
+    let (d, inv) = kept p r t (omega arith) in
+    augment-keeps p r t (omega arith) (built p t) d inv
+
+module _ (p : Problem) (r : Ranked p) (t : ℕ) (l : t ≤ p .trees) where
+  -- The running weight is the matching's, added up afresh.
+  pub weight-kept : built p t .weight ≡ rankWeight p (built p t .mates)
+  weight-kept = kept p r t l .1 .weighs
+
+  pub built-valid : Valid p (built p t .mates)
+  built-valid =
+      let g = kept p r t l .1 .pairs in
+      record { below = λ s x k e. omega (arith, g .below s x k e); covers = g .covers; falls = g .falls; once = g .once }
 
 -- A matched tree rank costs as much as its mate; an unmatched one keeps its cost.
 abbrev tree-cost : (p : Problem) (mates : Mates) (d : ℕ → ℕ) (t : ℕ) → Matched p mates t ⊎ Unmatched p mates t → ℕ
@@ -57,9 +65,6 @@ abbrev rank-costs : Problem → Mates → (ℕ → ℕ) → RankCosts
 rank-costs p mates d = record { tree = λ t. pos (tree-cost p mates d t (matched-view p mates t)); spare = λ s. pos (d s) }
 
 module _ (p : Problem) (mates : Mates) (d : ℕ → ℕ) (g : Pairs p (p .trees) mates d) (done : (t : ℕ) → t < p .trees → Done p mates d t) where
-  pairs-valid : Valid p mates
-  pairs-valid = record { below = g .below; covers = g .covers; falls = g .falls; once = g .once }
-
   pairs-slack : Slack p mates (rank-costs p mates d)
   pairs-slack =
       record {
@@ -91,10 +96,7 @@ module _ (p : Problem) (mates : Mates) (d : ℕ → ℕ) (g : Pairs p (p .trees)
       free t k u (inl m) = absurd (u (m .0) (m .1) (m .2))
       free t k u (inr _) = refl
 
-matching-ends : (p : Problem) → Ranked p → (d : ℕ → ℕ) × Pairs p (p .trees) (matching p) d × ((t : ℕ) → t < p .trees → Done p (matching p) d t)
-matching-ends p r = all-augmented p r _ 0 _ (p .spareCost) (omega arith) (first-invariant p)
-
-pub matching-slack : (p : Problem) → Ranked p → Valid p (matching p) × ((d : RankCosts) × Slack p (matching p) d)
+pub matching-slack : (p : Problem) → Ranked p → (d : RankCosts) × Slack p (matching p) d
 matching-slack p r =
-    let (d, pairs, done) = matching-ends p r in
-    (pairs-valid p (matching p) d pairs done, (rank-costs p (matching p) d, pairs-slack p (matching p) d pairs done))
+    let (d, inv) = kept p r (p .trees) (omega arith) in
+    (rank-costs p (matching p) d, pairs-slack p (matching p) d (inv .pairs) (inv .done))

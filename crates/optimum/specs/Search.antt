@@ -1,9 +1,9 @@
 -- The model of the matching, over any relation between tree ranks and non-tree ranks: the search that follows
 -- alternating paths, and the matching that it builds one tree rank at a time. Definitions only. Assumes nothing.
-use Prim.Native.Nat.{ℕ, zero, suc}
+use Prim.Native.Nat.{ℕ, zero, suc, _+_, _-_}
 use mathlib.Core.Bool.{Bool, true, false, cond, not, _&&_}
 use lib.Dec.{ltb, eqb}
-use Rattle.loops.specs.Loop.{scan, put, first, pick}
+use Rattle.loops.specs.Loop.{put, first, pick}
 use Rattle.loops.specs.Below.{choose}
 
 -- Tree edges and non-tree edges by rank: how many, the relation to match in, and their old costs. In the answer's problem
@@ -75,10 +75,11 @@ tryTree p goal (suc depth) t st =
 abbrev pub search : Problem → ℕ → ℕ → Search → Search
 search p goal t st = tryTree p goal (suc (p .trees)) t st
 
--- The matching so far; the tree ranks that searches which failed have visited, and the matched non-tree ranks that they
--- have not: no later search needs the others.
+-- The matching so far and its weight; the tree ranks that searches which failed have visited, and the matched non-tree
+-- ranks that they have not: no later search needs the others.
 pub record Progress : Type 0 where
   pub mates : Mates
+  pub weight : ℕ
   pub treeDead : ℕ → Bool
   pub spareLive : ℕ → Bool
 
@@ -106,9 +107,16 @@ goalOf p pr st = first (p .spares) (λ s. coversSome p (newTrees pr st) s && eqb
 abbrev pub worth : Problem → ℕ → ℕ → Bool
 worth p t goal = ltb goal (p .spares) && ltb (p .spareCost goal) (p .treeCost t)
 
--- The goal was met: the search has turned the matching, and gives nothing up.
-abbrev pub turned : Progress → ℕ → Search → Progress
-turned pr goal st = record { mates = st .mates; treeDead = pr .treeDead; spareLive = put (pr .spareLive) goal true }
+-- The goal was met: the search from tree rank t has turned the matching, and gives nothing up. Whatever lies between, the
+-- chain adds t and the goal to the matched ranks and takes none out: the weight is corrected by these two alone.
+abbrev pub turned : Problem → ℕ → Progress → ℕ → Search → Progress
+turned p t pr goal st =
+    let weight : ℕ = pr .weight + (p .treeCost t - p .spareCost goal) in
+    record { mates = st .mates; weight = weight; treeDead = pr .treeDead; spareLive = put (pr .spareLive) goal true }
+
+-- It was not: there is no chain, and what the search st has visited is given up.
+abbrev pub givenUp : Progress → Search → Progress
+givenUp pr st = record { mates = pr .mates; weight = pr .weight; treeDead = st .treeSeen; spareLive = λ s. not (st .spareSeen s) }
 
 -- The search st has visited all that alternating paths from tree rank t lead to: t is matched if the cheapest unmatched
 -- rank among it costs less; else all of it is given up.
@@ -116,8 +124,8 @@ abbrev pub augmentReached : Problem → ℕ → Progress → Search → Progress
 augmentReached p t pr st =
     let goal : ℕ = goalOf p pr st in
     choose (worth p t goal)
-    (λ _. turned pr goal (search p goal t (begun pr)))
-    (λ _. record { mates = pr .mates; treeDead = st .treeSeen; spareLive = λ s. not (st .spareSeen s) })
+    (λ _. turned p t pr goal (search p goal t (begun pr)))
+    (λ _. givenUp pr st)
 
 -- Tree rank t is matched if the cheapest unmatched non-tree edge that alternating paths lead to costs less than it. The
 -- cheapest of all is tried first: if it costs too much, so do the others; if it is met, no other is cheaper.
@@ -127,13 +135,18 @@ augment p t pr =
     choose (worth p t cheapest)
     (λ _.
     let st : Search = search p cheapest t (begun pr) in
-    choose (st .met) (λ _. turned pr cheapest st) (λ _. augmentReached p t pr st))
+    choose (st .met) (λ _. turned p t pr cheapest st) (λ _. augmentReached p t pr st))
     (λ _. pr)
 
--- Before the first tree rank: no mates.
+-- Before the first tree rank: no mates, and so no weight.
 abbrev pub unmatched : Progress
-unmatched = record { mates = λ _. 0; treeDead = λ _. false; spareLive = λ _. false }
+unmatched = record { mates = λ _. 0; weight = 0; treeDead = λ _. false; spareLive = λ _. false }
+
+-- What is there once the first t tree ranks have had their turn.
+unfoldable pub built : Problem → ℕ → Progress
+built p zero = unmatched
+built p (suc t) = augment p t (built p t)
 
 -- The matching: every tree rank in turn.
 abbrev pub matching : Problem → Mates
-matching p = scan (augment p) (p .trees) 0 unmatched .mates
+matching p = built p (p .trees) .mates

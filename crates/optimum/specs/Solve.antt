@@ -1,17 +1,16 @@
 -- The model of the answer to a graph with a marked tree and old costs: ranks, matching and labels, taken back to
 -- edges. Definitions only. Assumes nothing.
-use Prim.Native.Nat.{ℕ, zero, suc, _+_, _-_}
+use Prim.Native.Nat.{ℕ, zero, suc}
 use mathlib.Core.Bool.{_&&_}
 use mathlib.Core.List.{List, [], _∷_}
 use lib.Dec.{ltb}
 use lib.ListN.{length, getD}
 use Rattle.loops.specs.Loop.{scan, put, gather, tabulate}
-use Rattle.loops.specs.Below.{sum}
 use Rattle.graph.specs.Graph.{Graph, EdgeSet}
 use Rattle.graph.specs.Rank.{treeRanks, spareRanks}
 use Rattle.graph.specs.Paths.{Rooted, rooted, coversRank}
 use Rattle.optimum.specs.Optimum.{Pair, Answer}
-use Rattle.optimum.specs.Search.{Problem, Mates, matching}
+use Rattle.optimum.specs.Search.{Problem, Mates, built, matching}
 use Rattle.optimum.specs.Lowest.{Labels, labels}
 
 -- The edges by rank. Related are a tree edge and a cheaper non-tree edge that covers it. One that costs no less needs no
@@ -48,10 +47,6 @@ unfoldable pub pairAt : ℕ → ℕ → List Pair
 pairAt t zero = []
 pairAt t (suc s) = record { tree = t; spare = s } ∷ []
 
--- The absolute difference of two natural numbers.
-abbrev pub gap : ℕ → ℕ → ℕ
-gap x y = (x - y) + (y - x)
-
 unfoldable pub solve : Graph → EdgeSet → (ℕ → ℕ) → Answer
 solve g tr c =
     let ts : List ℕ = treeRanks g tr c in
@@ -61,7 +56,7 @@ solve g tr c =
     let new : (ℕ → ℕ) = newCosts ts ss (labels p mates) in
     let mate : (ℕ → ℕ) = partners ts ss mates in
     record {
-      steps = sum (g .edges) (λ e. gap (new e) (c e));
+      steps = built p (p .trees) .weight;
       costs = tabulate (g .edges) new;
       pairs = gather (g .edges) (λ e. pairAt e (mate e));
     }

@@ -1,5 +1,6 @@
--- What the answer of the model is: its costs are the labels of the ranks, its steps their deviation and the weight of its
--- pairs; they make the tree minimum, no costs that do take fewer steps, and those that take as few are nowhere lower.
+-- What the answer of the model is: its costs are the labels of the ranks, its steps the running weight's last value, which
+-- is the weight of its pairs and the deviation of its costs; they make the tree minimum, no costs that do take fewer steps,
+-- and those that take as few are nowhere lower.
 -- Assumes nothing.
 use Prim.Native.Nat.{ℕ, _≤_, _<_}
 use native.Mathlib.Omega.{arith}
@@ -16,13 +17,12 @@ use Rattle.graph.specs.Graph.{Graph, Sound, EdgeSet, SpanningTree, Minimum, spa
 use Rattle.graph.specs.Rank.{treeRanks, spareRanks}
 use Rattle.graph.specs.RankLaws.{tree-lists, spare-lists}
 use Rattle.optimum.specs.Optimum.{Costs, deviation, IsPair, Matching, weight, Rising, Falls, chosen}
-use Rattle.optimum.specs.Search.{Mates, matching}
+use Rattle.optimum.specs.Search.{Mates, built, matching}
 use Rattle.optimum.specs.Lowest.{Labels, labels}
 use Rattle.optimum.specs.Slackness.{Valid, Slack, rankWeight}
 use Rattle.optimum.specs.Solve.{problem, newCosts, solve}
-use Rattle.optimum.specs.Distance.{distance-is}
 use Rattle.optimum.specs.Duality.{weak, slack-equal, equal-slack}
-use Rattle.optimum.specs.MatchingProof.{matching-slack}
+use Rattle.optimum.specs.MatchingProof.{weight-kept, built-valid, matching-slack}
 use Rattle.optimum.specs.LowestProof.{labelCosts, labels-slack, labels-lowest}
 use Rattle.optimum.specs.Solution.{
   byRank,
@@ -75,16 +75,19 @@ module _ (g : Graph) (tr : EdgeSet) (c : ℕ → ℕ) where
   spare-cost s h =
       new-cost (getD (spareRanks g tr c) s 0) (spare-lists g tr c .below s h) ∙ spare-new g tr c (labelsOf g tr c) s h
 
-  -- The step count is the sum of their changes.
-  new-steps : solve g tr c .steps ≡ deviation g c (λ e. pos (new e))
-  unfolding solve
-  new-steps = sum-same (g .edges) _ (λ e. natAbs (pos (new e) -ℤ pos (c e))) (λ e h. omega (arith, distance-is (pos (new e)) (c e)))
+  -- The running weight is that of the pairs, added up afresh: at the start and, since a tree rank has at most one chain,
+  -- after each chain.
+  pub running-weight :
+      (t : ℕ) → t ≤ length (treeRanks g tr c)
+      → weight c (pairsOf g tr c (built (problem g tr c) t .mates)) ≡ pos (built (problem g tr c) t .weight)
+  running-weight t l =
+      rw (weight-kept (problem g tr c) (ranked g tr c) t l)
+      (pairs-weight g tr c (built (problem g tr c) t .mates) (built-valid (problem g tr c) (ranked g tr c) t l))
 
-  pub solve-steps : solve g tr c .steps ≡ deviation g c (chosen (solve g tr c))
-  solve-steps =
-      new-steps
-      ∙ sum-same (g .edges) (λ e. natAbs (pos (new e) -ℤ pos (c e)))
-      (λ e. natAbs (chosen (solve g tr c) e -ℤ pos (c e))) (λ e h. rw (new-cost e h))
+  -- The step count is its last value.
+  solve-last : solve g tr c .steps ≡ built (problem g tr c) (length (treeRanks g tr c)) .weight
+  unfolding solve
+  solve-last = refl
 
   -- The pairs listed are those of the matching.
   pub solve-pairs : solve g tr c .pairs ≡ pairsOf g tr c (matesOf g tr c)
@@ -96,15 +99,21 @@ module _ (g : Graph) (tr : EdgeSet) (c : ℕ → ℕ) where
 
   -- The matching and the labels are slack: each proves the other best.
   pub solve-valid : Valid (problem g tr c) (matesOf g tr c)
-  solve-valid = matching-slack (problem g tr c) (ranked g tr c) .0
+  solve-valid = built-valid (problem g tr c) (ranked g tr c) (length (treeRanks g tr c)) (omega arith)
 
   pub solve-slack : Slack (problem g tr c) (matesOf g tr c) (labelCosts (labelsOf g tr c))
   solve-slack =
-      let some = matching-slack (problem g tr c) (ranked g tr c) .1 in
+      let some = matching-slack (problem g tr c) (ranked g tr c) in
       labels-slack (problem g tr c) (ranked g tr c) (matesOf g tr c) solve-valid (some .0) (some .1)
 
   pub solve-falls : Falls c (solve g tr c .pairs)
   solve-falls = rw solve-pairs (pairs-falls g tr c (matesOf g tr c) solve-valid)
+
+  pub solve-weighs : weight c (solve g tr c .pairs) ≡ pos (solve g tr c .steps)
+  solve-weighs = rw (solve-pairs, solve-last) (running-weight (length (treeRanks g tr c)) (omega arith))
+
+  steps-weight : solve g tr c .steps ≡ rankWeight (problem g tr c) (matesOf g tr c)
+  steps-weight = solve-last ∙ weight-kept (problem g tr c) (ranked g tr c) (length (treeRanks g tr c)) (omega arith)
 
   module _ (sound : Sound g) (tree : SpanningTree g tr) where
     pub solve-minimum : Minimum g tr (chosen (solve g tr c))
@@ -145,15 +154,14 @@ module _ (g : Graph) (tr : EdgeSet) (c : ℕ → ℕ) where
     pub whole : (e : ℕ) → e < g .edges → (tr e ≡ true) ⊎ (spareOf g tr e ≡ true)
     whole e h = elim (truth (tr e)) [ inl q ↦ inl q | inr q ↦ inr (and-both (g .live e) (not (tr e)) (live e h) (ap not q)) ]
 
-    steps-weight : solve g tr c .steps ≡ rankWeight (problem g tr c) (matesOf g tr c)
-    steps-weight =
-        new-steps
-        ∙ label-deviation g tr c whole (labelsOf g tr c)
-        ∙ slack-equal (problem g tr c) (matesOf g tr c) (labelCosts (labelsOf g tr c)) solve-valid solve-slack
-
-    pub solve-weighs : weight c (solve g tr c .pairs) ≡ pos (solve g tr c .steps)
-    solve-weighs =
-        rw (solve-pairs, steps-weight) (pairs-weight g tr c (matesOf g tr c) solve-valid)
+    -- The step count is the sum of their changes.
+    pub solve-steps : solve g tr c .steps ≡ deviation g c (chosen (solve g tr c))
+    solve-steps =
+        steps-weight
+        ∙ sym (slack-equal (problem g tr c) (matesOf g tr c) (labelCosts (labelsOf g tr c)) solve-valid solve-slack)
+        ∙ sym (label-deviation g tr c whole (labelsOf g tr c))
+        ∙ sum-same (g .edges) (λ e. natAbs (pos (new e) -ℤ pos (c e)))
+        (λ e. natAbs (chosen (solve g tr c) e -ℤ pos (c e))) (λ e h. rw (new-cost e h))
 
     module _ (sound : Sound g) (tree : SpanningTree g tr) where
       pub solve-fewest : (d : Costs) → Minimum g tr d → solve g tr c .steps ≤ deviation g c d

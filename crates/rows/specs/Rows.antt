@@ -3,7 +3,7 @@ use Prim.Native.Nat.{ℕ}
 use mathlib.Core.Path.{_≡_, refl}
 use mathlib.Core.List.{List, [], _∷_, map, flatMap}
 use lib.Dec.{eqb}
-use Rattle.loops.specs.Below.{choose, sum, allBelow}
+use Rattle.loops.specs.Below.{choose, allBelow}
 use Rattle.loops.specs.Loop.{scan, first, last, pick, gather}
 use Rattle.number.specs.Number.{encode, extend, decode}
 use Rattle.frame.specs.Questions.{front, divideUpTo, question2, question3, question4, question5, question6, refusal, jobOf}
@@ -12,7 +12,7 @@ use Rattle.frame.specs.AnswerMeaning.{answerFrame}
 use Rattle.frame.specs.Answers.{answerOf}
 use Rattle.graph.specs.Rank.{insert, sorted}
 use Rattle.graph.specs.Paths.{grow, expandAll, judge}
-use Rattle.optimum.specs.Search.{follow, trySpares, tryTree, augment}
+use Rattle.optimum.specs.Search.{follow, trySpares, tryTree, augment, built}
 use Rattle.optimum.specs.Lowest.{labelTree, mateSearch, labelSpare, labelFrom}
 use Rattle.optimum.specs.Solve.{join, pairAt, solve}
 use mathlib.Core.Bool.{xor}
@@ -47,7 +47,7 @@ rows =
     []
 
 pub rows-hold : map (λ (r : Row). resultOf (r .job)) rows ≡ map (λ (r : Row). r .result) rows
-unfolding linksOf question2 question3 question4 question5 question6 flatMap encode extend decode front divideUpTo scan sum allBelow
-    first last pick gather insert sorted grow expandAll judge follow trySpares tryTree augment labelTree mateSearch labelSpare labelFrom
+unfolding linksOf question2 question3 question4 question5 question6 flatMap encode extend decode front divideUpTo scan allBelow
+    first last pick gather insert sorted grow expandAll judge follow trySpares tryTree augment built labelTree mateSearch labelSpare labelFrom
     join pairAt solve xor
 rows-hold = refl

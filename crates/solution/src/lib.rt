@@ -1,9 +1,8 @@
-// From ranks back to edges: new costs, mates and steps from what the search found by rank (specs/Asked.antt).
+// From ranks back to edges: new costs and mates from what the search found by rank (specs/Asked.antt).
 ghost use mathlib.Core.Path.{_≡_};
 ghost use Prim.Native.Nat.{ℕ, _-_, _<_, _≤_};
 ghost use lib.ListN.{length, getD, replicate, take};
-ghost use Rattle.loops.specs.Below.{sum};
-ghost use Rattle.optimum.specs.Solve.{place, join, partners, gap};
+ghost use Rattle.optimum.specs.Solve.{place, join, partners};
 ghost use Rattle.graph.specs.Rank.{Ranks};
 ghost use Rattle.solution.specs.Asked.{MatesRanked};
 use ids::Edge;
@@ -62,28 +61,4 @@ pub fn partners(
         join(ts, Edge(e), m, mate);
         rank += 1;
     }
-}
-
-// The absolute difference.
-fn gap(x: u32, y: u32) -> u32
-    ensures { λ r. ⌜ r ≡ gap x y ⌝ }
-{
-    if x < y {
-        return y - x;
-    }
-    x - y
-}
-
-// The sum, over all edges, of the absolute difference between new and old cost.
-pub fn steps(edges: usize, cost: &[u32; 256], costs: &[u32; 256]) -> u64
-    requires { ⌜ edges ≤ 256 ⌝ }
-    ensures { λ r. ⌜ r ≡ sum edges (λ e. gap (getD (now (costs .entry)) e 0) (getD (now (cost .entry)) e 0)) ⌝ }
-{
-    let mut total: u64 = 0;
-    let mut e: usize = 0;
-    while e < edges {
-        total += gap(costs[e], cost[e]) as u64;
-        e += 1;
-    }
-    total
 }

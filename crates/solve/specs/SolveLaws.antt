@@ -8,7 +8,6 @@ use lib.Dec.{leb, ltb, eqb}
 use lib.ListN.{length, getD, take}
 use lib.Seq.{getD-take}
 use borrow.Author.Tests.{lt-ltb, le-ltb}
-use Rattle.loops.specs.Below.{sum}
 use Rattle.loops.specs.Loop.{gather, tabulate}
 use Rattle.sets.specs.Sets.{inRow}
 use Rattle.graph.specs.Graph.{Graph, EdgeSet, spareOf}
@@ -18,7 +17,7 @@ use Rattle.graph.specs.RankLaws.{spare-lists, tree-falls, spare-rises}
 use Rattle.graph.specs.Paths.{rooted, coversRank}
 use Rattle.optimum.specs.Search.{Problem, matching}
 use Rattle.optimum.specs.Lowest.{labels}
-use Rattle.optimum.specs.Solve.{problem, newCosts, partners, pairAt, gap, solve}
+use Rattle.optimum.specs.Solve.{problem, newCosts, partners, pairAt, solve}
 use Rattle.optimum.specs.Range.{pairs-few}
 use Rattle.limits.specs.Limits.{stepBytes}
 use Rattle.frame.specs.Job.{Job, link, graphOf, treeOf, costOf}
@@ -131,7 +130,8 @@ module _ {j : Job} {n m : ℕ} {a : Arrays} (h : Held j n m a) where
           }
 
   -- What the matching, the labels and the partners then are.
-  module _ {q : ℕ} {ss rows mates taken mates′ costs mate : List ℕ} (w : MatesPlaced (n - 1) m a q ss rows mates taken mates′ costs mate) where
+  module _ {q : ℕ} {ss rows mates taken : List ℕ} {weight : ℕ} {mates′ costs mate : List ℕ}
+      (w : MatesPlaced (n - 1) m a q ss rows mates taken weight mates′ costs mate) where
     mates-are : arrayMates mates ≡ matching pr
     mates-are = w .built .equal pr (tree-count h) (holds (w .ranks) rows (w .filled))
 
@@ -145,9 +145,10 @@ module _ {j : Job} {n m : ℕ} {a : Arrays} (h : Held j n m a) where
         w .joined (n - 1) (λ s l. w .costed .below s) ∙
         (λ i. partners (h .ranks i) (ss-are (w .ranks) i) ((w .costed .same ∙ mates-are) i))
 
-    steps-are : sum m (λ e. gap (getD costs e 0) (getD (a .links .cost) e 0)) ≡ answerOf j .steps
+    -- The running weight's last value is the step count.
+    steps-are : weight ≡ answerOf j .steps
     unfolding solve
-    steps-are i = sum (h .stored .edges-are i) (λ e. gap (new-are i e) (h .stored .cost i e))
+    steps-are = w .built .last pr (tree-count h) (holds (w .ranks) rows (w .filled))
 
     pairs-are : matePairs m mate ≡ answerOf j .pairs
     unfolding solve
@@ -162,12 +163,11 @@ module _ {j : Job} {n m : ℕ} {a : Arrays} (h : Held j n m a) where
         let v = h .accepted in
         omega (arith, ap length pairs-are, pairs-few (own j v), v .tree .size, v .node-limit)
 
-    pub small-steps : sum m (λ e. gap (getD costs e 0) (getD (a .links .cost) e 0)) < 128 ^ stepBytes
+    pub small-steps : weight < 128 ^ stepBytes
     small-steps = omega (arith, steps-are, own-layout j (h .accepted) .step-limit)
 
     pub answer-is :
-        (steps count : ℕ) (ps : List ℕ) →
-        steps ≡ sum m (λ e. gap (getD costs e 0) (getD (a .links .cost) e 0)) →
+        (count : ℕ) (ps : List ℕ) →
         PairsListed (matePairs m mate) count ps →
-        answerAt steps m costs count ps ≡ answerOf j
-    answer-is steps count ps e l i = record { steps = (e ∙ steps-are) i; costs = costs-are i; pairs = (l .pairs ∙ pairs-are) i }
+        answerAt weight m costs count ps ≡ answerOf j
+    answer-is count ps l i = record { steps = steps-are i; costs = costs-are i; pairs = (l .pairs ∙ pairs-are) i }

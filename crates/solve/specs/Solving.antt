@@ -53,10 +53,11 @@ RowsFilled trees a spares ss rows =
     → inRow rows t s ≡ (ltb s spares && undercuts (a .links .cost) (a .ranks) ss (a .links .end₁) (a .links .end₂) (a .mask) t s)
 
 -- What is known once the matching is found, the new costs are placed and the mates are back at their links.
-pub record MatesPlaced (trees edges : ℕ) (a : Arrays) (spares : ℕ) (ss rows mates taken mates′ costs mate : List ℕ) : Type 0 where
+pub record MatesPlaced (trees edges : ℕ) (a : Arrays) (spares : ℕ) (ss rows mates taken : List ℕ) (weight : ℕ) (mates′ costs mate : List ℕ) :
+    Type 0 where
   pub ranks : SparesRanked edges (a .links) spares ss
   pub filled : RowsFilled trees a spares ss rows
-  pub built : Built trees spares (a .links .cost) (a .ranks) ss rows mates taken
+  pub built : Built trees spares (a .links .cost) (a .ranks) ss rows mates taken weight
   pub costed : Costed trees spares (a .links .cost) (a .ranks) ss rows mates mates′ costs
   pub joined :
       (p : ℕ) → ((s : ℕ) → s < spares → getD mates′ s 0 ≤ p)

@@ -44,7 +44,7 @@ fn new_costs(
     solution::place(ss, spares, spare_label, costs);
 }
 
-// The step count, and how many pairs are listed.
+// The step count, which is the weight of the matching, and how many pairs are listed.
 pub struct Solved {
     pub steps: u32,
     pub count: usize,
@@ -80,7 +80,7 @@ pub fn solve(
     let mates = end1;
     *mates = [0u32; 256];
     let mut taken = [0u64; 4];
-    matching::build(
+    let weight = matching::build(
         trees,
         spares as u32,
         cost,
@@ -107,10 +107,9 @@ pub fn solve(
     let mate = mark;
     *mate = [0u32; 256];
     solution::partners(ts, &ss, spares, mates, mate);
-    let steps = solution::steps(edges, cost, costs);
     let count = answer::list_pairs(edges, mate, pairs);
     Solved {
-        steps: steps as u32,
+        steps: weight as u32,
         count: count,
     }
 }

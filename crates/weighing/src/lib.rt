@@ -1,10 +1,35 @@
-// The order and the weight of the pairs that an answer lists (specs/Weighing.antt).
+// The steps of the costs that an answer names, the order and the weight of the pairs that it lists (specs/Weighing.antt).
 ghost use mathlib.Core.Path.{_≡_};
 ghost use Prim.Native.Nat.{_-_, _≤_, _<_};
 ghost use lib.ListN.{getD};
 ghost use Rattle.loops.specs.Below.{allBelow, sum};
+ghost use Rattle.frame.specs.Answers.{gap};
 ghost use Rattle.weighing.specs.Weighing.{pairRises, fall, Falling};
 use ids::Edge;
+
+// The absolute difference.
+fn gap(x: u32, y: u32) -> u32
+    ensures { λ r. ⌜ r ≡ gap x y ⌝ }
+{
+    if x < y {
+        return y - x;
+    }
+    x - y
+}
+
+// The sum, over all edges, of the absolute difference between new and old cost.
+pub fn steps(edges: usize, cost: &[u32; 256], costs: &[u32; 256]) -> u64
+    requires { ⌜ edges ≤ 256 ⌝ }
+    ensures { λ r. ⌜ r ≡ sum edges (λ e. gap (getD (now (costs .entry)) e 0) (getD (now (cost .entry)) e 0)) ⌝ }
+{
+    let mut steps: u64 = 0;
+    let mut e: usize = 0;
+    while e < edges {
+        steps += gap(costs[e], cost[e]) as u64;
+        e += 1;
+    }
+    steps
+}
 
 // Every pair before pair i has a lower tree edge and another spare.
 fn pair_rises(i: usize, pairs: &[u32; 128]) -> bool

@@ -11,10 +11,9 @@ use lib.ListN.{getD, take}
 use borrow.Author.Tests.{not-true, not-false}
 use Rattle.loops.specs.Below.{sum, allBelow}
 use Rattle.graph.specs.Paths.{judge}
-use Rattle.optimum.specs.Solve.{gap}
 use Rattle.paths.specs.Arrays.{arrayGraph, arrayTree, arrayCost}
 use Rattle.frame.specs.Job.{Job}
-use Rattle.frame.specs.Answers.{judgeAnswer}
+use Rattle.frame.specs.Answers.{judgeAnswer, gap}
 use Rattle.weighing.specs.Weighing.{pairRises, fall}
 use Rattle.pairing.specs.Pairs.{pairsHeld}
 use Rattle.frame.specs.Arrays.{Arrays, arrays}

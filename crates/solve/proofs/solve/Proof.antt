@@ -57,7 +57,7 @@ placed :
     let sr = spares-of f in
     let t = start-of sr in
     MatesPlaced (t .args .nodes - 1) (t .args .edges) (arrays-of t) (sr .spare-ranks .result) (ss-of sr) (f .fill-rows .last .1 .1 .1 .1 .1 .1 .1 .1 .0)
-    (bu .build .last .1 .1 .1 .1 .1 .1 .0) (bu .build .last .1 .1 .1 .1 .1 .1 .1 .0) (nc .new-costs .last .1 .1 .1 .1 .1 .1 .1 .0)
+    (bu .build .last .1 .1 .1 .1 .1 .1 .0) (bu .build .last .1 .1 .1 .1 .1 .1 .1 .0) (bu .build .result) (nc .new-costs .last .1 .1 .1 .1 .1 .1 .1 .0)
     (nc .new-costs .last .1 .1 .1 .1 .1 .1 .1 .1 .1 .0) (pa .partners .last .1 .1 .1 .1 .0)
 placed pa =
     let nc = costs-of pa in
@@ -165,29 +165,24 @@ partners-requires c κs =
       ),
     )
 
-steps-requires : tie.Need-steps-requires
-steps-requires c κs = few-links (held (start-of (spares-of (rows-of (build-of (costs-of (c .before)))))))
-
 list-pairs-requires : tie.Need-list-pairs-requires
 list-pairs-requires c κs =
-    let pa = c .before .before .before .before in
+    let pa = c .before .before in
     let t = start-of (spares-of (rows-of (build-of (costs-of pa)))) in
     (few-links (held t), (few-pairs (held t) (placed pa), t .pre .1 .1))
 
 cast-t28 : tie.Need-cast-t28
 cast-t28 c =
-    let n = c .before .before .before in
-    let pa = n .before .before in
-    omega (arith, n .steps .ensures, small-steps (held (start-of (spares-of (rows-of (build-of (costs-of pa)))))) (placed pa))
+    let pa = c .before .before .before in
+    omega (arith, small-steps (held (start-of (spares-of (rows-of (build-of (costs-of pa)))))) (placed pa))
 
 returns : tie.Need-returns
 returns c =
-    let n = c .before .before .before in
-    let pa = n .before .before in
+    let pa = c .before .before .before in
     let t = start-of (spares-of (rows-of (build-of (costs-of pa)))) in
     let w = placed pa in (
       omega (arith, c .list-pairs .ensures .count, few-pairs (held t) w),
-      λ j h. answer-is h w (n .steps .result) (c .list-pairs .result) _ (n .steps .ensures) (c .list-pairs .ensures),
+      λ j h. answer-is h w (c .list-pairs .result) _ (c .list-pairs .ensures),
     )
 
 pub solve-spec : {M : Type 1} → statement M
@@ -201,7 +196,6 @@ solve-spec =
     build-requires
     new-costs-requires
     partners-requires
-    steps-requires
     list-pairs-requires
     cast-t28
     returns)

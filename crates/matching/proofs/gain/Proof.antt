@@ -1,9 +1,9 @@
--- `matching::gains` meets its contract. Assumes nothing.
+-- `matching::gain` meets its contract. Assumes nothing.
 use borrow.Author.Needs.{needs}
 use borrow.Author.Tests.{lt-ltb, le-ltb}
 use native.Mathlib.Omega.{arith}
-use Rattle.matching.proofs.gains.Statement.{statement}
-use Rattle.matching.proofs.gains.Tie as tie
+use Rattle.matching.proofs.gain.Statement.{statement}
+use Rattle.matching.proofs.gain.Tie as tie
 
 returns : tie.Need-returns
 returns c =
@@ -28,43 +28,51 @@ mul-tree c = search needs
 element-copy-out-tree : tie.Need-element-copy-out-tree
 element-copy-out-tree c = search needs
 
-cast-result : tie.Need-cast-result
-cast-result c =
+cast-low : tie.Need-cast-low
+cast-low c =
     omega (
       arith,
       c .before .before .before .before .before .before .before .pre .3 (c .before .before .before .before .before .before .before .args .goal .0)
           (c .before .before .before .before .before .if1 .left),
     )
 
-mul-result : tie.Need-mul-result
-mul-result c =
+mul-low : tie.Need-mul-low
+mul-low c =
     omega (
       arith,
       c .before .before .before .before .before .before .before .pre .3 (c .before .before .before .before .before .before .before .args .goal .0)
           (c .before .before .before .before .before .if1 .left),
     )
 
-element-copy-out-result : tie.Need-element-copy-out-result
-element-copy-out-result c =
+element-copy-out-low : tie.Need-element-copy-out-low
+element-copy-out-low c =
     c .before .before .before .before .before .before .before .pre .3 (c .before .before .before .before .before .before .before .args .goal .0)
     (c .before .before .before .before .before .if1 .left)
 
-cast-result-2 : tie.Need-cast-result-2
-cast-result-2 c = search needs
+cast-high : tie.Need-cast-high
+cast-high c = search needs
 
-mul-result-2 : tie.Need-mul-result-2
-mul-result-2 c = search needs
+mul-high : tie.Need-mul-high
+mul-high c = search needs
 
-element-copy-out-result-2 : tie.Need-element-copy-out-result-2
-element-copy-out-result-2 c = search needs
+element-copy-out-high : tie.Need-element-copy-out-high
+element-copy-out-high c = search needs
 
 returns-2 : tie.Need-returns-2
 returns-2 c =
-    let a = c .before .before .before .before .before .before .before .before .before .before .args in
-    rw (lt-ltb (a .goal .0) (a .spares) (c .before .before .before .before .before .before .before .before .if1 .left))
+    let a = c .before .before .before .before .before .before .before .before .before .before .before .args in
+    rw (lt-ltb (a .goal .0) (a .spares) (c .before .before .before .before .before .before .before .before .before .if1 .left)) (omega (arith, c .if2 .taken))
 
-pub gains-spec : {M : Type 1} → statement M
-gains-spec =
+sub-result : tie.Need-sub-result
+sub-result c = search needs
+
+returns-3 : tie.Need-returns-3
+returns-3 c =
+    let a = c .before .before .before .before .before .before .before .before .before .before .before .args in
+    rw (lt-ltb (a .goal .0) (a .spares) (c .before .before .before .before .before .before .before .before .before .if1 .left))
+
+pub gain-spec : {M : Type 1} → statement M
+gain-spec =
     tie.close
     (tie.spec
     returns
@@ -74,10 +82,12 @@ gains-spec =
     cast-tree
     mul-tree
     element-copy-out-tree
-    cast-result
-    mul-result
-    element-copy-out-result
-    cast-result-2
-    mul-result-2
-    element-copy-out-result-2
-    returns-2)
+    cast-low
+    mul-low
+    element-copy-out-low
+    cast-high
+    mul-high
+    element-copy-out-high
+    returns-2
+    sub-result
+    returns-3)

@@ -1,7 +1,7 @@
--- `solution::gap` meets its contract. Assumes nothing.
+-- `weighing::gap` meets its contract. Assumes nothing.
 use native.Mathlib.Omega.{arith}
-use Rattle.solution.proofs.gap.Statement.{statement}
-use Rattle.solution.proofs.gap.Tie as tie
+use Rattle.weighing.proofs.gap.Statement.{statement}
+use Rattle.weighing.proofs.gap.Tie as tie
 
 sub-result : tie.Need-sub-result
 sub-result c = omega arith

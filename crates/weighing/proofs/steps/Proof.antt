@@ -1,21 +1,21 @@
--- `solution::steps` meets its contract. The loop's invariant: the sum over the edges passed. Assumes nothing.
+-- `weighing::steps` meets its contract. The loop's invariant: the sum over the edges passed. Assumes nothing.
 use Prim.Native.Nat.{_-_, _*_, _≤_}
 use mathlib.Core.Path.{_≡_, refl}
 use native.Mathlib.Omega.{arith}
 use borrow.Author.Needs.{needs}
 use lib.ListN.{getD}
 use Rattle.loops.specs.Below.{sum}
-use Rattle.optimum.specs.Solve.{gap}
+use Rattle.frame.specs.Answers.{gap}
 use Rattle.loops.specs.SumLaws.{sum-more}
-use Rattle.solution.proofs.steps.Statement.{statement}
-use Rattle.solution.proofs.steps.Tie as tie
+use Rattle.weighing.proofs.steps.Statement.{statement}
+use Rattle.weighing.proofs.steps.Tie as tie
 
 abbrev Inv-loop : tie.InvT-loop
-Inv-loop edges cost costs total₀ e₀ total e =
-    (e ≤ edges) × (total ≡ sum e (λ e. gap (getD costs e 0) (getD cost e 0))) × (total ≤ 4294967296 * e)
+Inv-loop edges cost costs steps₀ e₀ steps e =
+    (e ≤ edges) × (steps ≡ sum e (λ e. gap (getD costs e 0) (getD cost e 0))) × (steps ≤ 4294967296 * e)
 
 abbrev μ-loop : tie.MeasureT-loop
-μ-loop edges cost costs total₀ e₀ total e = edges - e
+μ-loop edges cost costs steps₀ e₀ steps e = edges - e
 
 loop-holds : tie.Need-loop-holds Inv-loop μ-loop
 unfolding sum
@@ -36,11 +36,11 @@ element-copy-out-gap-2 c = omega arith
 gap-requires : tie.Need-gap-requires Inv-loop μ-loop
 gap-requires c κs = search needs
 
-cast-total : tie.Need-cast-total Inv-loop μ-loop
-cast-total c = omega arith
+cast-steps : tie.Need-cast-steps Inv-loop μ-loop
+cast-steps c = omega arith
 
-add-total : tie.Need-add-total Inv-loop μ-loop
-add-total c = omega arith
+add-steps : tie.Need-add-steps Inv-loop μ-loop
+add-steps c = omega arith
 
 add-e : tie.Need-add-e Inv-loop μ-loop
 add-e c = omega arith
@@ -75,8 +75,8 @@ steps-spec =
     mul-gap-2
     element-copy-out-gap-2
     gap-requires
-    cast-total
-    add-total
+    cast-steps
+    add-steps
     add-e
     loop-less
     loop-again
