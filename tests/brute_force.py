@@ -221,6 +221,13 @@ def weight(job, pairs):
     return sum(job.links[t].cost - job.links[s].cost for t, s in pairs)
 
 
+def running_weights(job):
+    """For each count of tree links, from none to all, dearest first: the greatest weight of a pairing of these links."""
+    order = sorted(tree_links(job), key=lambda t: (-job.links[t].cost, t))
+    used = [(weight(job, pairs), {t for t, _ in pairs}) for pairs in pairings(pairs_of(job))]
+    return [max(total for total, links in used if links <= set(order[:count])) for count in range(len(order) + 1)]
+
+
 def falls(job, pairs):
     """Has every pair an old tree cost greater than its old spare cost?"""
     return all(job.links[t].cost > job.links[s].cost for t, s in pairs)

@@ -37,18 +37,22 @@ MODEL = {
 LIBRARY = ["mathlib.Core.List.flatMap", "mathlib.Core.Bool.xor"]
 
 HEADER = """-- What the model computes. Assumes nothing.
-use Prim.Native.Nat.{ℕ}
+use Prim.Native.Nat.{ℕ, suc}
 use mathlib.Core.Path.{_≡_, refl}
 use mathlib.Core.Bool.{Bool, true, false, _&&_, _||_}
 use mathlib.Core.List.{List, [], _∷_}
 use mathlib.Core.Option.{Option, Option·getD}
 use lib.Dec.{eqb}
 use lib.ListN.{length}
+use Rattle.loops.specs.Loop.{tabulate}
 use Rattle.optimum.specs.Optimum.{Answer}
-use Rattle.frame.specs.Job.{JobLink, Job, jobFrame, costOf}
+use Rattle.optimum.specs.Search.{Problem, built}
+use Rattle.optimum.specs.Solve.{problem}
+use Rattle.optimum.specs.Solution.{pairsOf}
+use Rattle.frame.specs.Job.{JobLink, Job, jobFrame, graphOf, treeOf, costOf}
 use Rattle.frame.specs.Questions.{refusal, jobOf, listRefusal, later}
 use Rattle.frame.specs.AnswerMeaning.{answerFrame}
-use Rattle.frame.specs.Answers.{answerOf, judgeTree, judgeAnswer, readAnswer}
+use Rattle.frame.specs.Answers.{answerOf, judgeTree, judgeAnswer, readAnswer, pairsWeight}
 use Rattle.frame.specs.Services.{Outcome, written}
 use Rattle.frame.specs.Replies.{answered, linkPart, costPart, noAnswer}
 use Rattle.sheet.specs.Sheet.{movesOf, moveSum}
@@ -73,6 +77,18 @@ stepped make s f area =
 -- The absolute changes of the sheet of the own answer, added up.
 abbrev ownChanges : Job → ℕ
 ownChanges j = moveSum (movesOf (length (j .links)) (costOf j) (costsAt (answerOf j .costs)))
+
+abbrev problemOf : Job → Problem
+problemOf j = problem (graphOf j) (treeOf j) (costOf j)
+
+-- The running weight at the start and after each tree rank; and the pairs' weight there, added up.
+abbrev runningWeights : Job → List ℕ
+runningWeights j = tabulate (suc (problemOf j .trees)) (λ t. built (problemOf j) t .weight)
+
+abbrev addedWeights : Job → List ℕ
+addedWeights j =
+    tabulate (suc (problemOf j .trees)) λ t.
+    pairsWeight (costOf j) (pairsOf (graphOf j) (treeOf j) (costOf j) (built (problemOf j) t .mates))
 """
 
 # The rows T1 to T9, those that document 01 wants run, and some at the edge of a question: a job, and its answers or its
@@ -248,6 +264,7 @@ class Probe:
         self.state(frame, "read and written", f"jobFrame (jobOf {s})", list_text(frame))
         self.link_parts(frame, job)
         self.own_answer(frame, solution)
+        self.weights(frame, job)
         self.answers(frame, job, reference.made_elsewhere(self.rng, job, solution))
         self.sheets(frame, job, solution)
 
@@ -274,6 +291,12 @@ class Probe:
         if len(right) == 1:
             for length in (len(right[0]) - 1, len(right[0]), len(right[0]) + 2):
                 self.outcome(frame, right[0], [self.rng.randrange(256) for _ in range(length)])
+
+    def weights(self, frame, job):
+        """The running weight, and what the pairs add up to: the greatest weight of a pairing of the tree links so far."""
+        weights = list_text(reference.running_weights(job))
+        self.state(frame, "running weights", f"runningWeights (jobOf {bytes_text(frame)})", weights)
+        self.state(frame, "weights added up", f"addedWeights (jobOf {bytes_text(frame)})", weights)
 
     def outcome(self, frame, answer, area):
         """What the answer service leaves in an area."""

@@ -1,7 +1,7 @@
 // The labels of a matching: the lowest costs (specs/Labels.antt; the model is in optimum's specs/Lowest.antt).
-use ids::Edge;
 use ids::SpareRank;
 use ids::TreeRank;
+use matching::cost_at;
 ghost use mathlib.Core.Path.{_≡_};
 ghost use mathlib.Core.Bool.{cond, _||_};
 ghost use Prim.Native.Nat.{ℕ, suc, _<_, _≤_, min};
@@ -14,15 +14,6 @@ ghost use Rattle.search.specs.State.{Below};
 ghost use Rattle.matching.specs.Progress.{Edges};
 ghost use Rattle.graph.specs.Rank.{costAt};
 ghost use Rattle.labels.specs.Labels.{Labellable, Labelled, treeNext, matchedBelow};
-
-// The cost of place `k` of a list of ranks.
-fn cost_at(k: u32, cost: &[u32; 256], ranks: &[u32; 256]) -> u32
-    requires { ⌜ (k < 256) × (getD (now ranks) k 0 < 256) ⌝ }
-    ensures { λ r. ⌜ r ≡ costAt (now (cost .entry)) (now (ranks .entry)) k ⌝ }
-{
-    let e = Edge(ranks[k as usize]);
-    cost[e.0 as usize]
-}
 
 // Is tree rank `t` the next origin, and not the last of the `left` spare ranks that are left?
 fn tree_next(

@@ -2,10 +2,9 @@
 -- Assumes nothing.
 use Prim.Native.Nat.{ℕ, _+_, _-_, _^_, _≤_, _<_}
 use native.Mathlib.Decide.{decLt}
-use native.Mathlib.Nat.{add-zero}
 use native.Mathlib.Omega.{arith}
 use mathlib.Core.Path.{_≡_, refl, sym, ap, ap₂, _∙_, fun-ext}
-use mathlib.Core.Logic.{_≢_, inl, inr}
+use mathlib.Core.Logic.{inl, inr}
 use mathlib.Core.Bool.{Bool, true, false, cond, not, _&&_, _||_, Bool·not-not}
 use mathlib.Core.List.{List}
 use lib.Dec.{ltb, eqb}
@@ -23,7 +22,7 @@ use Rattle.optimum.specs.Search.{Problem, Mates, Search, search, Progress, begu
 use Rattle.optimum.specs.Search.{newTrees, goalOf, cheapestOf, worth, turned, givenUp, augmentReached, augment}
 use Rattle.optimum.specs.SearchLaws.{Explored, Always, search-fails}
 use Rattle.search.specs.State.{arrayMates, stateOf, Below, Rows}
-use Rattle.matching.specs.Progress.{progressOf, Holds, gain, Seekable, Sought, Augmentable, Augmented}
+use Rattle.matching.specs.Progress.{progressOf, Holds, goalCost, Seekable, Sought, Augmentable, Augmented}
 use Rattle.graph.specs.Rank.{costAt}
 
 -- The model's ways.
@@ -47,30 +46,32 @@ module _ (p : Problem) (t : ℕ) (pr : Progress) where
       → augmentReached p t pr st ≡ givenUp pr st
   reached-off st h = rw h
 
--- A goal that gains is a spare rank, and costs less.
-gain-test : (b : Bool) (x y : ℕ) → cond b (y - x) 0 ≢ 0 → (b && ltb x y) ≡ true
-gain-test true x y h = lt-ltb x y (elim (decLt x y) [ yes k ↦ k | no k ↦ absurd (h (omega arith)) ])
-gain-test false x y h = absurd (h refl)
+-- A goal that costs less than a number of 32 bits is a spare rank, and the test of its cost is the model's.
+goal-test : (b : Bool) (x y : ℕ) → y < 4294967296 → (b && ltb x y) ≡ ltb (cond b x 4294967295) y
+goal-test true x y k = refl
+goal-test false x y k = sym (le-ltb 4294967295 y (omega arith))
 
-none-test : (b : Bool) (x y : ℕ) → cond b (y - x) 0 ≡ 0 → (b && ltb x y) ≡ false
-none-test true x y h = le-ltb x y (omega arith)
-none-test false x y h = refl
+within-test : (b : Bool) (x y : ℕ) → y < 4294967296 → cond b x 4294967295 < y → b ≡ true
+within-test true x y k h = refl
+within-test false x y k h = absurd (omega arith)
 
-gain-within : (t goal spares : ℕ) (cost ts ss : List ℕ) → gain spares cost ts ss t goal ≢ 0 → goal < spares
-gain-within t goal spares cost ts ss h =
-    ltb-true goal spares (and-first (ltb goal spares) _ (gain-test (ltb goal spares) (costAt cost ss goal) (costAt cost ts t) h))
+goal-within : (spares : ℕ) (cost ss : List ℕ) (goal high : ℕ) → high < 4294967296 → goalCost spares cost ss goal < high → goal < spares
+goal-within spares cost ss goal high k h = ltb-true goal spares (within-test (ltb goal spares) (costAt cost ss goal) high k h)
 
 -- The code looks among 256 numbers, the model among the spare ranks.
 module _
-    (p : Problem)
-    (spares : ℕ)
-    (cost ts ss rows : List ℕ)
+    {p : Problem}
+    {spares : ℕ}
+    {cost ts ss rows : List ℕ}
     (h : Holds p spares cost ts ss rows)
-    (t : ℕ)
+    {t : ℕ}
     (l : t < p .trees)
-    (P Q : ℕ → Bool)
+    {high : ℕ}
+    (high-is : high ≡ costAt cost ts t)
+    (high-small : high < 4294967296)
+    {P Q : ℕ → Bool}
     (same : (s : ℕ) → s < p .spares → P s ≡ Q s)
-    (g : ℕ)
+    {g : ℕ}
     (lowest : First 256 P g)
   where
     found : g < p .spares → first (p .spares) Q ≡ g
@@ -89,8 +90,8 @@ module _
           hit = λ m. absurd (omega arith);
         })
 
-    worth-same : worth p t (first (p .spares) Q) ≡ (ltb g spares && ltb (costAt cost ss g) (costAt cost ts t))
-    worth-same =
+    worth-is : worth p t (first (p .spares) Q) ≡ (ltb g spares && ltb (costAt cost ss g) (costAt cost ts t))
+    worth-is =
         elim (decLt g (p .spares)) [
           | yes k ↦ ap (worth p t) (found k) ∙ rw (h .spare-cost g k, h .tree-cost t l, h .spares-are)
           | no k ↦
@@ -98,22 +99,29 @@ module _
               ∙ rw (le-ltb (p .spares) (p .spares) (omega arith), le-ltb g spares (omega (arith, h .spares-are)))
         ]
 
-    worth-off : gain spares cost ts ss t g ≡ 0 → worth p t (first (p .spares) Q) ≡ false
-    worth-off e = worth-same ∙ none-test (ltb g spares) (costAt cost ss g) (costAt cost ts t) e
+    worth-same : worth p t (first (p .spares) Q) ≡ ltb (goalCost spares cost ss g) high
+    worth-same =
+        worth-is ∙ ap (λ (x : ℕ). ltb g spares && ltb (costAt cost ss g) x) (sym high-is) ∙ goal-test (ltb g spares) (costAt cost ss g) high high-small
 
-    module _ (w : gain spares cost ts ss t g ≢ 0) where
-      worth-on : worth p t (first (p .spares) Q) ≡ true
-      worth-on = worth-same ∙ gain-test (ltb g spares) (costAt cost ss g) (costAt cost ts t) w
+    module _ {low : ℕ} (low-is : low ≡ goalCost spares cost ss g) where
+      worth-off : high ≤ low → worth p t (first (p .spares) Q) ≡ false
+      worth-off k = worth-same ∙ le-ltb (goalCost spares cost ss g) high (omega (arith, low-is))
 
-      within : g < p .spares
-      within = rw (← h .spares-are) at (gain-within t g spares cost ts ss w)
+      module _ (less : low < high) where
+        worth-on : worth p t (first (p .spares) Q) ≡ true
+        worth-on = worth-same ∙ lt-ltb (goalCost spares cost ss g) high (omega (arith, low-is))
 
-      found-worth : first (p .spares) Q ≡ g
-      found-worth = found within
+        within : g < spares
+        within = goal-within spares cost ss g high high-small (omega (arith, low-is))
 
-      -- What the weight gains.
-      gain-is : gain spares cost ts ss t g ≡ p .treeCost t - p .spareCost g
-      gain-is = rw (lt-ltb g spares (gain-within t g spares cost ts ss w), h .tree-cost t l, h .spare-cost g within)
+        found-worth : first (p .spares) Q ≡ g
+        found-worth = found (rw (← h .spares-are) at within)
+
+        -- What a chain to it adds to the weight.
+        gain-is : high - low ≡ p .treeCost t - p .spareCost g
+        gain-is =
+            let inside : g < p .spares = rw (← h .spares-are) at within in
+            rw (h .tree-cost t l, h .spare-cost g inside, high-is, low-is, lt-ltb g spares within)
 
 -- What covers some tree rank that is newly seen: by the rows, and by the problem.
 module _
@@ -141,82 +149,93 @@ module _
             some-of 64 (λ x. T x && inRow rows x s) x (below x (and-first _ _ both) .1)
             (and-both (T x) (inRow rows x s) (and-first _ _ both) (sym (are .covered x s k l) ∙ and-second (T x) _ both))
 
+-- What is known before the first search: the cheapest unmatched rank, and what it and tree rank t cost.
+pub record Compared (t weight spares : ℕ) (cost ts ss rows mates taken : List ℕ) (trees : ℕ) (live : List ℕ) (cheapest high least : ℕ) : Type 0 where
+  pub able : Augmentable t weight spares ts ss mates taken trees live
+  pub lowest : cheapest ≡ first 256 (λ s. not (member taken s))
+  pub high-is : high ≡ costAt cost ts t
+  pub high-small : high < 4294967296
+  pub least-is : least ≡ goalCost spares cost ss cheapest
+
 module _
-    (t spares : ℕ)
-    (cost ts ss rows mates taken : List ℕ)
-    (trees : ℕ)
-    (live : List ℕ)
-    (r : Augmentable t spares ts ss mates taken trees live)
-    (c : ℕ)
-    (lowest : c ≡ first 256 (λ s. not (member taken s)))
+    {t weight spares : ℕ}
+    {cost ts ss rows mates taken : List ℕ}
+    {trees : ℕ}
+    {live : List ℕ}
+    {c high least : ℕ}
+    (known : Compared t weight spares cost ts ss rows mates taken trees live c high least)
   where
     abbrev Out : List ℕ → List ℕ → ℕ → List ℕ → ℕ → Type 0
-    Out = Augmented t spares cost ts ss rows mates trees live
+    Out = Augmented t weight spares cost ts ss rows mates trees live
 
-    -- What was there, with any weight.
-    abbrev pr : ℕ → Progress
-    pr = progressOf mates trees live
+    abbrev pr : Progress
+    pr = progressOf mates trees live weight
 
     cheapest-first : First 256 (λ s. not (member taken s)) c
-    cheapest-first = rw lowest (first-is 256 (λ s. not (member taken s)))
+    cheapest-first = rw (known .lowest) (first-is 256 (λ s. not (member taken s)))
 
     cheapest-same : (p : Problem) → Holds p spares cost ts ss rows → (s : ℕ) → s < p .spares → not (member taken s) ≡ eqb (getD mates s 0) 0
-    cheapest-same p h s k = rw (r .taken-are s (omega (arith, h .rows-are .few)), Bool·not-not (eqb (getD mates s 0) 0))
+    cheapest-same p h s k = rw (known .able .taken-are s (omega (arith, h .rows-are .few)), Bool·not-not (eqb (getD mates s 0) 0))
 
     -- Even the cheapest costs too much, or there is none.
-    pub augmented-none : gain spares cost ts ss t c ≡ 0 → Out mates taken trees live 0
+    pub augmented-none : high ≤ least → Out mates taken trees live weight
     augmented-none off =
         record {
-          mates-length = r .mates-length;
-          taken-length = r .taken-length;
-          live-length = r .live-length;
+          mates-length = known .able .mates-length;
+          taken-length = known .able .taken-length;
+          live-length = known .able .live-length;
           below = λ n k b. b;
           unseen = λ n k b u. u;
-          taken-are = r .taken-are;
-          equal = λ w p h b l.
-              ap pr (add-zero w)
-              ∙ sym (augment-none p t (pr w) (worth-off p spares cost ts ss rows h t l _ _ (cheapest-same p h) c cheapest-first off));
+          taken-are = known .able .taken-are;
+          most = omega (arith, known .high-small);
+          equal = λ p h b l.
+              sym (augment-none p t pr (worth-off h l (known .high-is) (known .high-small) (cheapest-same p h) cheapest-first (known .least-is) off));
         }
 
-    module _ (on : gain spares cost ts ss t c ≢ 0) where
+    module _ (on : least < high) where
       pub cheapest-seekable : Seekable t c mates taken trees live
       cheapest-seekable =
           record {
-            fresh = r .fresh;
-            ready = record { rank = r .rank; mates-length = r .mates-length; live-length = r .live-length; below = r .below };
-            taken-length = r .taken-length;
-            taken-are = r .taken-are;
-            within = omega (arith, gain-within t c spares cost ts ss on, r .few);
+            fresh = known .able .fresh;
+            ready = record {
+              rank = known .able .rank;
+              mates-length = known .able .mates-length;
+              live-length = known .able .live-length;
+              below = known .able .below;
+            };
+            taken-length = known .able .taken-length;
+            taken-are = known .able .taken-are;
+            within = omega (arith, goal-within spares cost ss c high (known .high-small) (omega (arith, known .least-is)), known .able .few);
           }
 
       module _
-          (mates₁ taken₁ : List ℕ)
-          (trees₁ : ℕ)
-          (live₁ : List ℕ)
-          (met : Bool)
+          {mates₁ taken₁ : List ℕ}
+          {trees₁ : ℕ}
+          {live₁ : List ℕ}
+          {met : Bool}
           (first-search : Sought t c rows mates trees live mates₁ taken₁ trees₁ live₁ met)
         where
-          cheapest-is : (w : ℕ) (p : Problem) → Holds p spares cost ts ss rows → t < p .trees → cheapestOf p (pr w) ≡ c
-          cheapest-is w p h l = found-worth p spares cost ts ss rows h t l _ _ (cheapest-same p h) c cheapest-first on
+          cheapest-is : (p : Problem) → Holds p spares cost ts ss rows → t < p .trees → cheapestOf p pr ≡ c
+          cheapest-is p h l = found-worth h l (known .high-is) (known .high-small) (cheapest-same p h) cheapest-first (known .least-is) on
 
-          tried : (w : ℕ) (p : Problem) → Holds p spares cost ts ss rows → Below (p .trees) mates → t < p .trees
-              → augment p t (pr w)
-              ≡ choose met (λ _. turned p t (pr w) (cheapestOf p (pr w)) (stateOf mates₁ trees₁ live₁ met))
-              (λ _. augmentReached p t (pr w) (stateOf mates₁ trees₁ live₁ met))
-          tried w p h b l =
-              augment-tried p t (pr w) (worth-on p spares cost ts ss rows h t l _ _ (cheapest-same p h) c cheapest-first on) (stateOf mates₁ trees₁ live₁ met)
-              (ap (λ (j : ℕ). search p j t (begun (pr w))) (cheapest-is w p h l) ∙ sym (first-search .equal p (h .rows-are) b l))
+          tried : (p : Problem) → Holds p spares cost ts ss rows → Below (p .trees) mates → t < p .trees
+              → augment p t pr
+              ≡ choose met (λ _. turned p t pr (cheapestOf p pr) (stateOf mates₁ trees₁ live₁ met))
+              (λ _. augmentReached p t pr (stateOf mates₁ trees₁ live₁ met))
+          tried p h b l =
+              augment-tried p t pr
+              (worth-on h l (known .high-is) (known .high-small) (cheapest-same p h) cheapest-first (known .least-is) on)
+              (stateOf mates₁ trees₁ live₁ met)
+              (ap (λ (j : ℕ). search p j t (begun pr)) (cheapest-is p h l) ∙ sym (first-search .equal p (h .rows-are) b l))
 
           -- The cheapest has been met.
           pub augmented-met :
               met ≡ true →
-              (got : ℕ) →
-              got ≡ gain spares cost ts ss t c →
-              (live′ : List ℕ) →
+              {live′ : List ℕ} →
               ((j : ℕ) → member live′ j ≡ (member live j || eqb c j)) →
               length live′ ≡ 4 →
-              Out mates₁ taken₁ trees live′ got
-          augmented-met m got q live′ more size =
+              Out mates₁ taken₁ trees live′ (weight + (high - least))
+          augmented-met m {live′} more size =
               record {
                 mates-length = first-search .mates-length;
                 taken-length = first-search .taken-length;
@@ -224,37 +243,41 @@ module _
                 below = first-search .below;
                 unseen = λ n k b u. u;
                 taken-are = first-search .taken-are;
-                equal = λ w p h b l.
-                    ap₂ (λ (x : ℕ) (f : ℕ → Bool). record { mates = arrayMates mates₁; weight = w + x; treeDead = bit trees; spareLive = f })
-                    (q ∙ gain-is p spares cost ts ss rows h t l _ _ (cheapest-same p h) c cheapest-first on) (member-put live live′ c more)
-                    ∙ ap (λ (j : ℕ). turned p t (pr w) j (stateOf mates₁ trees₁ live₁ true)) (sym (cheapest-is w p h l))
-                    ∙ sym (rw m at (tried w p h b l));
+                most = omega (arith, known .high-small);
+                equal = λ p h b l.
+                    ap₂ (λ (x : ℕ) (f : ℕ → Bool). record { mates = arrayMates mates₁; weight = weight + x; treeDead = bit trees; spareLive = f })
+                    (gain-is h l (known .high-is) (known .high-small) (cheapest-same p h) cheapest-first (known .least-is) on)
+                    (member-put live live′ c more)
+                    ∙ ap (λ (j : ℕ). turned p t pr j (stateOf mates₁ trees₁ live₁ true)) (sym (cheapest-is p h l))
+                    ∙ sym (rw m at (tried p h b l));
               }
 
           -- Another goal that is worth it.
-          pub goal-seekable : (g : ℕ) → gain spares cost ts ss t g ≢ 0 → Seekable t g mates₁ taken₁ trees live
-          goal-seekable g gains =
+          pub goal-seekable : {g low : ℕ} → low ≡ goalCost spares cost ss g → low < high → Seekable t g mates₁ taken₁ trees live
+          goal-seekable {g} low-is less =
               record {
-                fresh = r .fresh;
+                fresh = known .able .fresh;
                 ready = record {
-                  rank = r .rank;
+                  rank = known .able .rank;
                   mates-length = first-search .mates-length;
-                  live-length = r .live-length;
-                  below = first-search .below 64 (r .rank) (r .below);
+                  live-length = known .able .live-length;
+                  below = first-search .below 64 (known .able .rank) (known .able .below);
                 };
                 taken-length = first-search .taken-length;
                 taken-are = first-search .taken-are;
-                within = omega (arith, gain-within t g spares cost ts ss gains, r .few);
+                within = omega (arith, goal-within spares cost ss g high (known .high-small) (omega (arith, low-is)), known .able .few);
               }
 
           -- It has not: the goal is the cheapest one reached.
           module _
               (m : met ≡ false)
-              (news : ℕ)
+              {news : ℕ}
               (word : news < 2 ^ 64)
               (news-are : (j : ℕ) → bit news j ≡ (bit trees₁ j && not (bit trees j)))
-              (g : ℕ)
+              {g : ℕ}
               (goal : g ≡ first 256 (λ s. inSome rows (bit news) s && not (member taken₁ s)))
+              {low : ℕ}
+              (low-is : low ≡ goalCost spares cost ss g)
             where
               same : arrayMates mates₁ ≡ arrayMates mates
               same = first-search .same m
@@ -288,7 +311,7 @@ module _
                   small = elim (decLt x 64) [ yes k ↦ k | no k ↦ clash q (bit-past 64 news x word (omega arith)) ]
 
               goal-same : (p : Problem) → Holds p spares cost ts ss rows → Below (p .trees) mates → t < p .trees → (s : ℕ) → s < p .spares
-                  → (inSome rows (bit news) s && not (member taken₁ s)) ≡ (coversSome p (newTrees (pr 0) (stateOf mates₁ trees₁ live₁ false)) s && eqb
+                  → (inSome rows (bit news) s && not (member taken₁ s)) ≡ (coversSome p (newTrees pr (stateOf mates₁ trees₁ live₁ false)) s && eqb
                   (getD mates s 0) 0)
               goal-same p h b l s k =
                   rw (
@@ -299,11 +322,11 @@ module _
                   )
                   (ap (λ (T : ℕ → Bool). coversSome p T s && eqb (getD mates s 0) 0) (fun-ext news-are))
 
-              failed : (w : ℕ) (p : Problem) → Holds p spares cost ts ss rows → Below (p .trees) mates → t < p .trees
-                  → augment p t (pr w) ≡ augmentReached p t (pr w) (stateOf mates₁ trees₁ live₁ false)
-              failed w p h b l = rw m at (tried w p h b l)
+              failed : (p : Problem) → Holds p spares cost ts ss rows → Below (p .trees) mates → t < p .trees
+                  → augment p t pr ≡ augmentReached p t pr (stateOf mates₁ trees₁ live₁ false)
+              failed p h b l = rw m at (tried p h b l)
 
-              pub augmented-off : gain spares cost ts ss t g ≡ 0 → Out mates₁ taken₁ trees₁ live₁ 0
+              pub augmented-off : high ≤ low → Out mates₁ taken₁ trees₁ live₁ weight
               augmented-off off =
                   record {
                     mates-length = first-search .mates-length;
@@ -312,22 +335,21 @@ module _
                     below = first-search .below;
                     unseen = first-search .unseen;
                     taken-are = first-search .taken-are;
-                    equal = λ w p h b l.
-                        ap (progressOf mates₁ trees₁ live₁) (add-zero w)
-                        ∙ ap₂ (λ (f : Mates) (v : ℕ → Bool). record { mates = f; weight = w; treeDead = bit trees₁; spareLive = v }) same
+                    most = omega (arith, known .high-small);
+                    equal = λ p h b l.
+                        ap₂ (λ (f : Mates) (v : ℕ → Bool). record { mates = f; weight = weight; treeDead = bit trees₁; spareLive = v }) same
                         (fun-ext (λ s. sym (Bool·not-not (member live₁ s))))
-                        ∙ sym (failed w p h b l ∙ reached-off p t (pr w) (stateOf mates₁ trees₁ live₁ false)
-                        (worth-off p spares cost ts ss rows h t l _ _ (goal-same p h b l) g goal-first off));
+                        ∙ sym (failed p h b l ∙ reached-off p t pr (stateOf mates₁ trees₁ live₁ false)
+                        (worth-off h l (known .high-is) (known .high-small) (goal-same p h b l) goal-first low-is off));
                   }
 
               pub augmented-on :
-                  gain spares cost ts ss t g ≢ 0 →
-                  (mates₂ taken₂ : List ℕ) (trees₂ : ℕ) (live₂ : List ℕ) (met₂ : Bool) →
+                  low < high →
+                  {mates₂ taken₂ : List ℕ} {trees₂ : ℕ} {live₂ : List ℕ} {met₂ : Bool} →
                   Sought t g rows mates₁ trees live mates₂ taken₂ trees₂ live₂ met₂
-                  → (got : ℕ) → got ≡ gain spares cost ts ss t g
-                  → (live′ : List ℕ) → ((j : ℕ) → member live′ j ≡ (member live j || eqb g j)) → length live′ ≡ 4
-                  → Out mates₂ taken₂ trees live′ got
-              augmented-on gains mates₂ taken₂ trees₂ live₂ met₂ second-search got q live′ more size =
+                  → {live′ : List ℕ} → ((j : ℕ) → member live′ j ≡ (member live j || eqb g j)) → length live′ ≡ 4
+                  → Out mates₂ taken₂ trees live′ (weight + (high - low))
+              augmented-on less {mates₂ = mates₂} second-search {live′} more size =
                   record {
                     mates-length = second-search .mates-length;
                     taken-length = second-search .taken-length;
@@ -335,14 +357,16 @@ module _
                     below = λ n k b. second-search .below n k (first-search .below n k b);
                     unseen = λ n k b u. u;
                     taken-are = second-search .taken-are;
-                    equal = λ w p h b l.
-                        let is = found-worth p spares cost ts ss rows h t l _ _ (goal-same p h b l) g goal-first gains in
-                        ap₂ (λ (x : ℕ) (f : ℕ → Bool). record { mates = arrayMates mates₂; weight = w + x; treeDead = bit trees; spareLive = f })
-                        (q ∙ gain-is p spares cost ts ss rows h t l _ _ (goal-same p h b l) g goal-first gains) (member-put live live′ g more)
-                        ∙ ap (turned p t (pr w) g)
+                    most = omega (arith, known .high-small);
+                    equal = λ p h b l.
+                        let is = found-worth h l (known .high-is) (known .high-small) (goal-same p h b l) goal-first low-is less in
+                        ap₂ (λ (x : ℕ) (f : ℕ → Bool). record { mates = arrayMates mates₂; weight = weight + x; treeDead = bit trees; spareLive = f })
+                        (gain-is h l (known .high-is) (known .high-small) (goal-same p h b l) goal-first low-is less)
+                        (member-put live live′ g more)
+                        ∙ ap (turned p t pr g)
                         (second-search .equal p (h .rows-are) (first-search .below (p .trees) l b) l
                         ∙ ap (λ (f : Mates). search p g t (record { mates = f; treeSeen = bit trees; spareSeen = λ s. not (member live s); met = false })) same)
-                        ∙ ap (λ (j : ℕ). turned p t (pr w) j (search p j t (begun (pr w)))) (sym is)
-                        ∙ sym (failed w p h b l ∙ reached-on p t (pr w) (stateOf mates₁ trees₁ live₁ false)
-                        (worth-on p spares cost ts ss rows h t l _ _ (goal-same p h b l) g goal-first gains));
+                        ∙ ap (λ (j : ℕ). turned p t pr j (search p j t (begun pr))) (sym is)
+                        ∙ sym (failed p h b l ∙ reached-on p t pr (stateOf mates₁ trees₁ live₁ false)
+                        (worth-on h l (known .high-is) (known .high-small) (goal-same p h b l) goal-first low-is less));
                   }

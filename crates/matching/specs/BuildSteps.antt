@@ -40,7 +40,7 @@ reached-weighs :
 reached-weighs p t mates dead-trees live weight r l e =
     ap (λ (pr : Progress). pr .weight) e ∙ weight-kept p r t l ∙ ap (λ (pr : Progress). rankWeight p (pr .mates)) (sym e)
 
-module _ (trees spares : ℕ) (cost ts ss rows mates taken : List ℕ) (h : Buildable trees spares ts ss mates taken) where
+module _ {trees spares : ℕ} {ts ss mates taken : List ℕ} (h : Buildable trees spares ts ss mates taken) where
   empty-is : progressOf mates 0 (replicate 4 0) 0 ≡ unmatched
   empty-is =
       ap (λ (m : Mates). record { mates = m; weight = 0; treeDead = bit 0; spareLive = member (replicate 4 0) }) (fun-ext (h .empty))
@@ -50,7 +50,7 @@ module _ (trees spares : ℕ) (cost ts ss rows mates taken : List ℕ) (h : Buil
   unfolding built
   start-reached p = empty-is
 
-  pub building-start : Building trees spares cost ts ss rows mates taken 0 (replicate 4 0) 0 0
+  pub building-start : {cost rows : List ℕ} → Building trees spares cost ts ss rows mates taken 0 (replicate 4 0) 0 0
   building-start =
       record {
         within = omega arith;
@@ -65,16 +65,17 @@ module _ (trees spares : ℕ) (cost ts ss rows mates taken : List ℕ) (h : Buil
         weighs = λ p e q r. reached-weighs p 0 mates 0 (replicate 4 0) 0 r (omega arith) (start-reached p);
       }
 
-module _ (trees spares : ℕ) (cost ts ss rows mates taken : List ℕ) (dead-trees : ℕ) (live : List ℕ) (weight t : ℕ)
+module _ {trees spares : ℕ} {cost ts ss rows mates taken : List ℕ} {dead-trees : ℕ} {live : List ℕ} {weight t : ℕ}
     (h : Building trees spares cost ts ss rows mates taken dead-trees live weight t) where
   pub building-ready :
-      (mates₀ taken₀ : List ℕ) →
+      {mates₀ taken₀ : List ℕ} →
       Buildable trees spares ts ss mates₀ taken₀ →
       t < trees →
-      Augmentable t spares ts ss mates taken dead-trees live
-  building-ready mates₀ taken₀ b l =
+      Augmentable t weight spares ts ss mates taken dead-trees live
+  building-ready b l =
       record {
         rank = omega (arith, b .few-trees);
+        room = h .most;
         fresh = h .unseen t (omega arith);
         few = b .few-spares;
         tree-edge = b .tree-edges t l;
@@ -87,18 +88,18 @@ module _ (trees spares : ℕ) (cost ts ss rows mates taken : List ℕ) (dead-tre
       }
 
   -- One tree rank more, in the model and in the arrays.
-  module _ (mates′ taken′ : List ℕ) (dead-trees′ : ℕ) (live′ : List ℕ) (gained : ℕ) (l : t < trees)
-      (a : Augmented t spares cost ts ss rows mates dead-trees live mates′ taken′ dead-trees′ live′ gained) where
+  module _ {mates′ taken′ : List ℕ} {dead-trees′ : ℕ} {live′ : List ℕ} {weight′ : ℕ} (l : t < trees)
+      (a : Augmented t weight spares cost ts ss rows mates dead-trees live mates′ taken′ dead-trees′ live′ weight′) where
     turn-reached :
-        (p : Problem) → p .trees ≡ trees → Holds p spares cost ts ss rows → progressOf mates′ dead-trees′ live′ (weight + gained) ≡ built p (t + 1)
+        (p : Problem) → p .trees ≡ trees → Holds p spares cost ts ss rows → progressOf mates′ dead-trees′ live′ weight′ ≡ built p (t + 1)
     unfolding built
     turn-reached p e q =
-        a .equal weight p q (λ s. omega (arith, h .below s, e)) (rw e l)
+        a .equal p q (λ s. omega (arith, h .below s, e)) (rw e l)
         ∙ ap (augment p t) (h .reached p e q)
         ∙ ap (built p) (sym (add-one t))
 
-    pub building-turn : gained < 4294967296 → Building trees spares cost ts ss rows mates′ taken′ dead-trees′ live′ (weight + gained) (t + 1)
-    building-turn small =
+    pub building-turn : Building trees spares cost ts ss rows mates′ taken′ dead-trees′ live′ weight′ (t + 1)
+    building-turn =
         record {
           within = omega arith;
           mates-length = a .mates-length;
@@ -107,9 +108,9 @@ module _ (trees spares : ℕ) (cost ts ss rows mates taken : List ℕ) (dead-tre
           below = a .below (t + 1) (omega arith) (λ s. omega (arith, h .below s));
           unseen = a .unseen (t + 1) (omega arith) (λ s. omega (arith, h .below s)) (λ u k. h .unseen u (omega arith));
           taken-are = a .taken-are;
-          most = omega (arith, h .most);
+          most = omega (arith, h .most, a .most);
           reached = turn-reached;
-          weighs = λ p e q r. reached-weighs p (t + 1) mates′ dead-trees′ live′ (weight + gained) r (omega arith) (turn-reached p e q);
+          weighs = λ p e q r. reached-weighs p (t + 1) mates′ dead-trees′ live′ weight′ r (omega arith) (turn-reached p e q);
         }
 
   pub building-end : trees ≤ t → Built trees spares cost ts ss rows mates taken weight

@@ -1,6 +1,6 @@
 -- The matching in progress as the code holds it, in the words of the model, and what the functions that build it promise.
 -- Definitions only. Assumes nothing.
-use Prim.Native.Nat.{ℕ, _+_, _-_, _≤_, _<_}
+use Prim.Native.Nat.{ℕ, _+_, _*_, _≤_, _<_}
 use mathlib.Core.Path.{_≡_}
 use mathlib.Core.Bool.{Bool, false, cond}
 use mathlib.Core.List.{List}
@@ -30,10 +30,9 @@ pub record Holds (p : Problem) (spares : ℕ) (cost ts ss rows : List ℕ) : Typ
   pub tree-cost : (t : ℕ) → t < p .trees → p .treeCost t ≡ costAt cost ts t
   pub spare-cost : (s : ℕ) → s < p .spares → p .spareCost s ≡ costAt cost ss s
 
--- What the weight gains by a chain from tree rank t to the goal: what t costs above it. 0 if there is no such goal, or if
--- it costs no less.
-abbrev pub gain : ℕ → List ℕ → List ℕ → List ℕ → ℕ → ℕ → ℕ
-gain spares cost ts ss t goal = cond (ltb goal spares) (costAt cost ts t - costAt cost ss goal) 0
+-- What a goal costs. Where there is no such spare rank, as much as 32 bits hold: no tree rank costs more.
+abbrev pub goalCost : ℕ → List ℕ → List ℕ → ℕ → ℕ
+goalCost spares cost ss goal = cond (ltb goal spares) (costAt cost ss goal) 4294967295
 
 -- No tree rank from n on was seen.
 abbrev pub Unseen : ℕ → ℕ → Type 0
@@ -60,9 +59,10 @@ pub record Sought (t goal : ℕ) (rows mates : List ℕ) (trees : ℕ) (live mat
       (p : Problem) → Rows p rows → Below (p .trees) mates → t < p .trees
       → stateOf mates′ trees′ live′ met ≡ search p goal t (stateOf mates trees live false)
 
--- What matching one more tree rank needs.
-pub record Augmentable (t spares : ℕ) (ts ss mates taken : List ℕ) (trees : ℕ) (live : List ℕ) : Type 0 where
+-- What matching one more tree rank needs. The weight is that of t chains at most, and so leaves room for one more.
+pub record Augmentable (t weight spares : ℕ) (ts ss mates taken : List ℕ) (trees : ℕ) (live : List ℕ) : Type 0 where
   pub rank : t < 64
+  pub room : weight ≤ t * 4294967295
   pub fresh : bit trees t ≡ false
   pub few : spares ≤ 256
   pub tree-edge : getD ts t 0 < 256
@@ -73,18 +73,19 @@ pub record Augmentable (t spares : ℕ) (ts ss mates taken : List ℕ) (trees : 
   pub below : Below 64 mates
   pub taken-are : Taken mates taken
 
--- What it leaves: sizes, and the model's progress. The weight, whatever it was, has gained what is handed back.
-pub record Augmented (t spares : ℕ) (cost ts ss rows mates : List ℕ) (trees : ℕ) (live mates′ taken′ : List ℕ) (trees′ : ℕ) (live′ : List ℕ) (gained : ℕ) :
-    Type 0 where
+-- What it leaves: sizes, and the model's progress, with the weight corrected.
+pub record Augmented (t weight spares : ℕ) (cost ts ss rows mates : List ℕ) (trees : ℕ) (live mates′ taken′ : List ℕ) (trees′ : ℕ) (live′ : List ℕ)
+    (weight′ : ℕ) : Type 0 where
   pub mates-length : length mates′ ≡ 256
   pub taken-length : length taken′ ≡ 4
   pub live-length : length live′ ≡ 4
   pub below : (n : ℕ) → t < n → Below n mates → Below n mates′
   pub unseen : (n : ℕ) → t < n → Below n mates → Unseen n trees → Unseen n trees′
   pub taken-are : Taken mates′ taken′
+  pub most : weight′ ≤ weight + 4294967295
   pub equal :
-      (weight : ℕ) (p : Problem) → Holds p spares cost ts ss rows → Below (p .trees) mates → t < p .trees
-      → progressOf mates′ trees′ live′ (weight + gained) ≡ augment p t (progressOf mates trees live weight)
+      (p : Problem) → Holds p spares cost ts ss rows → Below (p .trees) mates → t < p .trees
+      → progressOf mates′ trees′ live′ weight′ ≡ augment p t (progressOf mates trees live weight)
 
 -- What building a matching needs: room for it, and nothing in it yet.
 pub record Buildable (trees spares : ℕ) (ts ss mates taken : List ℕ) : Type 0 where

@@ -5,33 +5,27 @@ use ids::TreeRank;
 ghost use mathlib.Core.Path.{_≡_};
 ghost use Prim.Native.Nat.{_<_, _≤_};
 ghost use lib.ListN.{getD};
-ghost use Rattle.matching.specs.Progress.{Seekable, Sought, Augmentable, Augmented, Buildable, Built, Edges, gain};
+ghost use Rattle.matching.specs.Progress.{Seekable, Sought, Augmentable, Augmented, Buildable, Built, Edges, goalCost};
+ghost use Rattle.graph.specs.Rank.{costAt};
 
-// What tree rank `t` costs above the goal; 0 if there is no such goal, or if it costs no less.
-fn gain(
-    t: TreeRank,
-    goal: SpareRank,
-    spares: u32,
-    cost: &[u32; 256],
-    ts: &[u32; 256],
-    ss: &[u32; 256],
-) -> u32
-    requires { ⌜ (t .0 < 64) × (spares ≤ 256) × (getD (now ts) (t .0) 0 < 256) × Edges spares (now ss) ⌝ }
-    ensures { λ r. ⌜ r ≡ gain spares (now (cost .entry)) (now (ts .entry)) (now (ss .entry)) (t .0) (goal .0) ⌝ }
+// The cost of place `k` of a list of ranks.
+pub fn cost_at(k: u32, cost: &[u32; 256], ranks: &[u32; 256]) -> u32
+    requires { ⌜ (k < 256) × (getD (now ranks) k 0 < 256) ⌝ }
+    ensures { λ r. ⌜ r ≡ costAt (now (cost .entry)) (now (ranks .entry)) k ⌝ }
+{
+    let e = Edge(ranks[k as usize]);
+    cost[e.0 as usize]
+}
+
+// What the goal costs. Where there is no such spare rank, the largest number: no tree rank costs more.
+fn goal_cost(goal: SpareRank, spares: u32, cost: &[u32; 256], ss: &[u32; 256]) -> u32
+    requires { ⌜ (spares ≤ 256) × Edges spares (now ss) ⌝ }
+    ensures { λ r. ⌜ r ≡ goalCost spares (now (cost .entry)) (now (ss .entry)) (goal .0) ⌝ }
 {
     if spares <= goal.0 {
-        return 0;
+        return 4294967295;
     }
-    let spare = ss[goal.0 as usize];
-    let tree = ts[t.0 as usize];
-    let e = Edge(spare);
-    let f = Edge(tree);
-    let low = cost[e.0 as usize];
-    let high = cost[f.0 as usize];
-    if high <= low {
-        return 0;
-    }
-    high - low
+    cost_at(goal.0, cost, ss)
 }
 
 // Matches tree rank `t` along an alternating path to the goal, if one leads there. Was the goal met?
@@ -55,11 +49,12 @@ fn seek(
     false
 }
 
-// Matches tree rank `t`, if the cheapest unmatched spare rank that alternating paths lead to costs less, and hands back what
-// the weight gains by that. The cheapest of all is tried first; if paths lead to none that gains, what the search has seen
-// is given up for good.
+// Matches tree rank `t`, if the cheapest unmatched spare rank that alternating paths lead to costs less. The cheapest of
+// all is tried first; if paths lead to none that gains, what the search has seen is given up for good. Hands back the weight
+// of the matching: a path corrects it by what `t` costs above its goal.
 fn augment(
     t: TreeRank,
+    weight: u64,
     spares: u32,
     cost: &[u32; 256],
     ts: &[u32; 256],
@@ -69,15 +64,16 @@ fn augment(
     taken: &mut [u64; 4],
     tree_dead: &mut u64,
     live: &mut [u64; 4],
-) -> u32
-    requires { ⌜ Augmentable (t .0) spares (now ts) (now ss) (now mates) (now taken) (now «tree_dead») (now live) ⌝ }
-    ensures { λ r. ⌜ Augmented (t .0) spares (now (cost .entry)) (now (ts .entry)) (now (ss .entry)) (now (rows .entry)) (now (mates .entry))
+) -> u64
+    requires { ⌜ Augmentable (t .0) weight spares (now ts) (now ss) (now mates) (now taken) (now «tree_dead») (now live) ⌝ }
+    ensures { λ r. ⌜ Augmented (t .0) weight spares (now (cost .entry)) (now (ts .entry)) (now (ss .entry)) (now (rows .entry)) (now (mates .entry))
         (now («tree_dead» .entry)) (now (live .entry)) (now (mates .exit)) (now (taken .exit)) (now («tree_dead» .exit)) (now (live .exit)) r ⌝ }
 {
     let cheapest = sets::lowest_free(taken);
-    let most = gain(t, SpareRank(cheapest), spares, cost, ts, ss);
-    if most == 0 {
-        return 0;
+    let high = cost_at(t.0, cost, ts);
+    let least = goal_cost(SpareRank(cheapest), spares, cost, ss);
+    if high <= least {
+        return weight;
     }
     let mut tree_seen = *tree_dead;
     let mut left = *live;
@@ -91,12 +87,12 @@ fn augment(
         &mut left,
     ) {
         sets::insert(live, cheapest);
-        return most;
+        return weight + (high - least) as u64;
     }
     let new_trees = bits::less(tree_seen, *tree_dead);
     let goal = set_rows::lowest_covering(rows, new_trees, taken);
-    let gained = gain(t, SpareRank(goal), spares, cost, ts, ss);
-    if gained != 0 {
+    let low = goal_cost(SpareRank(goal), spares, cost, ss);
+    if low < high {
         tree_seen = *tree_dead;
         left = *live;
         seek(
@@ -109,11 +105,11 @@ fn augment(
             &mut left,
         );
         sets::insert(live, goal);
-        return gained;
+        return weight + (high - low) as u64;
     }
     *tree_dead = tree_seen;
     *live = left;
-    0
+    weight
 }
 
 // Builds the matching in `mates`, which is empty, and the set of its spare ranks: every tree rank in turn. Hands back its
@@ -137,8 +133,9 @@ pub fn build(
     let mut weight = 0u64;
     let mut t = 0;
     while t < trees {
-        let gained = augment(
+        weight = augment(
             TreeRank(t),
+            weight,
             spares,
             cost,
             ts,
@@ -149,7 +146,6 @@ pub fn build(
             &mut tree_dead,
             &mut live,
         );
-        weight += gained as u64;
         t += 1;
     }
     weight

@@ -84,10 +84,10 @@ module _ (g : Graph) (tr : EdgeSet) (c : ℕ → ℕ) where
       rw (weight-kept (problem g tr c) (ranked g tr c) t l)
       (pairs-weight g tr c (built (problem g tr c) t .mates) (built-valid (problem g tr c) (ranked g tr c) t l))
 
-  -- The step count is its last value.
-  solve-last : solve g tr c .steps ≡ built (problem g tr c) (length (treeRanks g tr c)) .weight
+  -- Its last value is the step count.
+  pub last-weight : solve g tr c .steps ≡ built (problem g tr c) (length (treeRanks g tr c)) .weight
   unfolding solve
-  solve-last = refl
+  last-weight = refl
 
   -- The pairs listed are those of the matching.
   pub solve-pairs : solve g tr c .pairs ≡ pairsOf g tr c (matesOf g tr c)
@@ -110,10 +110,10 @@ module _ (g : Graph) (tr : EdgeSet) (c : ℕ → ℕ) where
   solve-falls = rw solve-pairs (pairs-falls g tr c (matesOf g tr c) solve-valid)
 
   pub solve-weighs : weight c (solve g tr c .pairs) ≡ pos (solve g tr c .steps)
-  solve-weighs = rw (solve-pairs, solve-last) (running-weight (length (treeRanks g tr c)) (omega arith))
+  solve-weighs = rw (solve-pairs, last-weight) (running-weight (length (treeRanks g tr c)) (omega arith))
 
   steps-weight : solve g tr c .steps ≡ rankWeight (problem g tr c) (matesOf g tr c)
-  steps-weight = solve-last ∙ weight-kept (problem g tr c) (ranked g tr c) (length (treeRanks g tr c)) (omega arith)
+  steps-weight = last-weight ∙ weight-kept (problem g tr c) (ranked g tr c) (length (treeRanks g tr c)) (omega arith)
 
   module _ (sound : Sound g) (tree : SpanningTree g tr) where
     pub solve-minimum : Minimum g tr (chosen (solve g tr c))
