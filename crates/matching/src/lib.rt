@@ -69,45 +69,29 @@ fn augment(
     ensures { λ r. ⌜ Augmented (t .0) weight spares (now (cost .entry)) (now (ts .entry)) (now (ss .entry)) (now (rows .entry)) (now (mates .entry))
         (now («tree_dead» .entry)) (now (live .entry)) (now (mates .exit)) (now (taken .exit)) (now («tree_dead» .exit)) (now (live .exit)) r ⌝ }
 {
-    let cheapest = sets::lowest_free(taken);
+    let best = sets::lowest_free(taken);
     let high = cost_at(t.0, cost, ts);
-    let least = goal_cost(SpareRank(cheapest), spares, cost, ss);
+    let least = goal_cost(SpareRank(best), spares, cost, ss);
     if high <= least {
         return weight;
     }
-    let mut tree_seen = *tree_dead;
+    let mut seen = *tree_dead;
     let mut left = *live;
-    if seek(
-        t,
-        SpareRank(cheapest),
-        rows,
-        mates,
-        taken,
-        &mut tree_seen,
-        &mut left,
-    ) {
-        sets::insert(live, cheapest);
+    if seek(t, SpareRank(best), rows, mates, taken, &mut seen, &mut left) {
+        sets::insert(live, best);
         return weight + (high - least) as u64;
     }
-    let new_trees = bits::less(tree_seen, *tree_dead);
+    let new_trees = bits::less(seen, *tree_dead);
     let goal = set_rows::lowest_covering(rows, new_trees, taken);
     let low = goal_cost(SpareRank(goal), spares, cost, ss);
     if low < high {
-        tree_seen = *tree_dead;
+        seen = *tree_dead;
         left = *live;
-        seek(
-            t,
-            SpareRank(goal),
-            rows,
-            mates,
-            taken,
-            &mut tree_seen,
-            &mut left,
-        );
+        seek(t, SpareRank(goal), rows, mates, taken, &mut seen, &mut left);
         sets::insert(live, goal);
         return weight + (high - low) as u64;
     }
-    *tree_dead = tree_seen;
+    *tree_dead = seen;
     *live = left;
     weight
 }

@@ -34,23 +34,13 @@ compared f =
       least-is = f .goal-cost .ensures;
     }
 
--- the cheapest can be sought, and the goal that was reached
+-- the cheapest can be sought
 cheapest-able :
     (p : tie.Else1) →
     let f = p .before in
     let a = start-of f .args in
     Seekable (a .t .0) (f .before .before .lowest-free .result) (a .mates .now) (a .taken .now) (a .tree-dead .now) (a .live .now)
 cheapest-able p = cheapest-seekable (compared (p .before)) (p .if1 .left)
-
-goal-able :
-    (y : tie.Then3) →
-    let d = seek-of (y .before) in
-    let a = start-of (open-of d .before) .args in
-    Seekable (a .t .0) (y .before .before .lowest-covering .result) (d .seek .last .1 .1 .1 .0) (d .seek .last .1 .1 .1 .1 .0)
-    (a .tree-dead .now) (a .live .now)
-goal-able y =
-    let d = seek-of (y .before) in
-    goal-seekable (compared (open-of d .before)) (open-of d .if1 .left) (d .seek .ensures) (y .before .goal-cost2 .ensures) (y .if3 .taken)
 
 -- ---- the needs
 
@@ -107,7 +97,17 @@ returns-4 c =
     augmented-off (compared (p .before)) (p .if1 .left) (d .seek .ensures) (g .before .before .before .before .if2 .left) (omega arith)
     (g .before .before .before .less .ensures) (g .before .lowest-covering .ensures) (g .goal-cost2 .ensures) (c .if3 .left)
 
--- They lead to one.
+-- They lead to one, which can be sought.
+goal-able :
+    (y : tie.Then3) →
+    let d = seek-of (y .before) in
+    let a = start-of (open-of d .before) .args in
+    Seekable (a .t .0) (y .before .before .lowest-covering .result) (d .seek .last .1 .1 .1 .0) (d .seek .last .1 .1 .1 .1 .0)
+    (a .tree-dead .now) (a .live .now)
+goal-able y =
+    let d = seek-of (y .before) in
+    goal-seekable (compared (open-of d .before)) (open-of d .if1 .left) (d .seek .ensures) (y .before .goal-cost2 .ensures) (y .if3 .taken)
+
 seek-requires-2 : tie.Need-seek-requires-2
 seek-requires-2 c κs = goal-able (c .before .before .before .before .before)
 
