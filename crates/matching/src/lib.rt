@@ -1,4 +1,5 @@
-// The matching, built one tree rank at a time (specs/Progress.antt; the model is in optimum's specs/Search.antt).
+// The matching, built one tree rank at a time, and its running weight (specs/Progress.antt; the model is in optimum's
+// specs/Search.antt).
 use ids::Edge;
 use ids::SpareRank;
 use ids::TreeRank;

@@ -108,7 +108,8 @@ abbrev pub worth : Problem → ℕ → ℕ → Bool
 worth p t goal = ltb goal (p .spares) && ltb (p .spareCost goal) (p .treeCost t)
 
 -- The goal was met: the search from tree rank t has turned the matching, and gives nothing up. Whatever lies between, the
--- chain adds t and the goal to the matched ranks and takes none out: the weight is corrected by these two alone.
+-- chain adds t and the goal to the matched ranks and takes none out: the weight is corrected by these two alone. The goal
+-- costs less than t, so that nothing is cut off.
 abbrev pub turned : Problem → ℕ → Progress → ℕ → Search → Progress
 turned p t pr goal st =
     let weight : ℕ = pr .weight + (p .treeCost t - p .spareCost goal) in
