@@ -344,6 +344,14 @@ pub first-free : (taken : List ℕ) (a b c d : ℕ)
 unfolding member
 first-free taken a b c d = first-of-words a b c d (λ k j. not (bit (getD taken k 0) j))
 
+-- It is below 64 if the first word leaves one out.
+pub first-free-low : (taken : List ℕ) (a : ℕ) → ((j : ℕ) → j < 64 → bit a j ≡ not (bit (getD taken 0 0) j))
+    → a < 2 ^ 64 → 0 < a → first 256 (λ s. not (member taken s)) ≡ first 64 (bit a)
+first-free-low taken a others u l =
+    first-word (λ s. not (member taken s)) 4 0 a (omega arith) (λ j m. ap not (member-word taken 0 j m) ∙ sym (others j m))
+    (clear-none (λ s. not (member taken s))) l u
+    ∙ zero-add (first 64 (bit a))
+
 -- The first member of a set that is not in `taken`.
 pub first-untaken : (ws taken : List ℕ) (a b c d : ℕ) (P : ℕ → Bool) → ((s : ℕ) → s < 256 → member ws s ≡ P s)
     → ((j : ℕ) → bit a j ≡ (bit (getD ws 0 0) j && not (bit (getD taken 0 0) j)))

@@ -89,14 +89,13 @@ fn others(w: u64) -> u64
     !w
 }
 
-// The lowest number that is not in `taken`; 256 if there is none.
+// The lowest number that is not in `taken`; 256 if there is none. It is mostly below 64: then no other word is looked at.
 pub fn lowest_free(taken: &[u64; 4]) -> u32
     ensures { λ r. ⌜ r ≡ first 256 (λ s. not (member (now (taken .entry)) s)) ⌝ }
 {
-    lowest_of(
-        others(taken[0]),
-        others(taken[1]),
-        others(taken[2]),
-        others(taken[3]),
-    )
+    let low = others(taken[0]);
+    if low != 0 {
+        return bits::lowest(low);
+    }
+    lowest_of(low, others(taken[1]), others(taken[2]), others(taken[3]))
 }

@@ -79,6 +79,8 @@ pub fn solve(
     covering::fill_rows(trees, spares, cost, ts, &ss, end1, end2, mask, &mut rows);
     let mates = end1;
     *mates = [0u32; 256];
+    let spare_label = end2;
+    *spare_label = [0u32; 256];
     let mut taken = [0u64; 4];
     let weight = matching::build(
         trees,
@@ -90,8 +92,6 @@ pub fn solve(
         mates,
         &mut taken,
     );
-    let spare_label = end2;
-    *spare_label = [0u32; 256];
     new_costs(
         trees,
         spares,

@@ -21,10 +21,10 @@ abbrev costs-of : tie.After-partners → tie.After-new-costs
 costs-of pa = pa .before .before .before .before .before
 
 abbrev build-of : tie.After-new-costs → tie.After-build
-build-of nc = nc .before .before .before .before .before .before .before .before
+build-of nc = nc .before .before .before .before .before .before .before
 
 abbrev rows-of : tie.After-build → tie.After-fill-rows
-rows-of bu = bu .before .before .before .before .before .before
+rows-of bu = bu .before .before .before .before .before .before .before
 
 abbrev spares-of : tie.After-fill-rows → tie.After-spare-ranks
 spares-of f = f .before .before .before .before .before
@@ -106,11 +106,11 @@ fill-rows-requires c κs =
     )
 
 cast-build : tie.Need-cast-build
-cast-build c = omega (arith, most-spares (c .before .before .before .before .before .before))
+cast-build c = omega (arith, most-spares (c .before .before .before .before .before .before .before))
 
 build-requires : tie.Need-build-requires
 build-requires c κs =
-    let sr = c .before .before .before .before .before .before .before .before .before .before in
+    let sr = c .before .before .before .before .before .before .before .before .before .before .before in
     let h = held (start-of sr) in
     record {
       few-trees = omega (arith, few-nodes h);
@@ -125,7 +125,7 @@ build-requires c κs =
 
 new-costs-requires : tie.Need-new-costs-requires
 new-costs-requires c κs =
-    let bu = c .before .before .before .before .before .before .before in
+    let bu = c .before .before .before .before .before .before in
     let sr = spares-of (rows-of bu) in
     let t = start-of sr in
     let h = held t in
