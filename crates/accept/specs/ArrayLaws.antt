@@ -6,10 +6,11 @@ use native.Mathlib.Omega.{arith}
 use mathlib.Core.Path.{_≡_, refl, sym, ap, ap₂, subst, _∙_}
 use mathlib.Core.Bool.{Bool, true, false}
 use mathlib.Core.List.{List}
-use lib.Dec.{leb, eqb}
+use lib.Dec.{leb}
 use lib.ListN.{length, getD, take}
 use lib.Seq.{sets, length-sets, getD-take}
 use borrow.Author.Tests.{ne-eqb}
+use Rattle.limits.specs.Limits.{marksTree}
 use Rattle.number.specs.Number.{Bytes}
 use Rattle.loops.specs.TestLaws.{clash, same-test}
 use Rattle.graph.specs.CountLaws.{count-below}
@@ -21,7 +22,7 @@ use Rattle.graph.specs.Tree.{tree-means}
 use Rattle.frame.specs.Job.{JobLink, Job, link, graphOf, treeOf, costOf}
 use Rattle.frame.specs.Arrays.{Columns, Arrays}
 use Rattle.frame.specs.Questions.{ask, jobOf, question4, question5, question6, layoutRefusal, jobRefusal}
-use Rattle.frame.specs.Form.{question4-means, question5-means, question6-means, ends-sound, two-refused}
+use Rattle.frame.specs.Form.{question4-means, question5-means, tree-usable, question6-means, ends-sound, two-refused}
 use Rattle.frame.specs.Lists.{Listed, ask-passed, small-job, counted-limits}
 use Rattle.frame.specs.Accepted.{laid-job, listed-accepted, cost-small}
 use Rattle.adjacency.specs.Words.{RankedEnds}
@@ -120,14 +121,14 @@ module _ {j : Job} {n m : ℕ} {c : Columns} (k : Stored j n m c) where
 
   -- Tree edges by rank, as the code lists them, and in the order of their numbers.
   byRank : ℕ → (ℕ → ℕ) → (ℕ → ℕ) → List ℕ
-  byRank m cost mark = sorted (λ x y. leb (cost y) (cost x)) (members m (λ e. eqb (mark e) 1))
+  byRank m cost mark = sorted (λ x y. leb (cost y) (cost x)) (members m (λ e. marksTree (mark e)))
 
   ranks-are : treeList m (c .cost) (c .mark) ≡ treeRanks (graphOf j) (treeOf j) (costOf j)
   unfolding byRank
   ranks-are = ap₂ (byRank m) (k .cost) (k .mark) ∙ ap (λ (m : ℕ). byRank m (costOf j) (λ e. link j e .mark)) (k .edges-are)
 
   inOrder : ℕ → (ℕ → ℕ) → List ℕ
-  inOrder m mark = members m (λ e. eqb (mark e) 1)
+  inOrder m mark = members m (λ e. marksTree (mark e))
 
   members-are : members m (inTree (c .mark)) ≡ members (length (j .links)) (treeOf j)
   unfolding inOrder
@@ -156,7 +157,7 @@ module _ {j : Job} {n m : ℕ} {c : Columns} (k : Stored j n m c) where
     any-list =
         let l = counted-limits j (k .counted) .0 in
         let by-rank = question6-means j l (f .ends) in
-        let so-listed = tree-means (ends-sound j (f .ends)) (t .lists) l (λ e b t. refl) in
+        let so-listed = tree-means (ends-sound j (f .ends)) (t .lists) l (λ e b. tree-usable j e) in
         same-test _ _ (λ h. so-listed .1 (by-rank .0 h)) (λ h. by-rank .1 (so-listed .0 h))
 
     -- Another number of tree edges than it should be.
@@ -181,9 +182,9 @@ module _ {j : Job} {n m : ℕ} {c : Columns} (k : Stored j n m c) where
           }
 
     -- Whether they join all stations.
-    module _ (r : Bool) (said : (edges : ℕ) → r ≡ isTree (arrayGraph n edges (c .end₁) (c .end₂)) (take count ts)) where
+    module _ (r : Bool) (said : (edges : ℕ) (mark : List ℕ) → r ≡ isTree (arrayGraph n edges (c .end₁) (c .end₂) mark) (take count ts)) where
       tree-answer : r ≡ question6 j
-      tree-answer = said m ∙ ap (λ (g : Graph). isTree g (take count ts)) (graph-stored k) ∙ sym any-list
+      tree-answer = said m (c .mark) ∙ ap (λ (g : Graph). isTree g (take count ts)) (graph-stored k) ∙ sym any-list
 
       pub tree-wrong : r ≡ false → 6 ≡ jobRefusal j
       tree-wrong w =
@@ -213,6 +214,6 @@ module _ {j : Job} {n m : ℕ} {c : Columns} (k : Stored j n m c) where
               accepted = listed-accepted j f tree-yes;
               ranks = ap (λ (i : ℕ). take i ts) last ∙ ts-are;
               places = t .places;
-              paths = w .paths m ∙ (λ i. rooted (graph-stored k i) (ts-are i) .path);
+              paths = w .paths m (c .mark) ∙ (λ i. rooted (graph-stored k i) (ts-are i) .path);
             }
         tree-kept false listed mask w = k

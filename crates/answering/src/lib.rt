@@ -10,13 +10,13 @@ use codec::Reply;
 use job::Header;
 use solve::solve;
 
-// Writes the answer to a job in arrays into the area, or refuses it and writes nothing. The arrays of ends and marks serve
-// as room.
+// Writes the answer to a job in arrays into the area, or refuses it and writes nothing. The new costs take the place of the old
+// ones, and the arrays of ends and marks serve as room.
 pub fn answer_held(
     header: Header,
     end1: &mut [u32; 256],
     end2: &mut [u32; 256],
-    cost: &[u32; 256],
+    cost: &mut [u32; 256],
     mark: &mut [u32; 256],
     ts: &[u32; 256],
     mask: &[u64; 64],
@@ -37,22 +37,9 @@ pub fn answer_held(
     }
     let nodes = header.nodes;
     let edges = header.edges as usize;
-    let mut costs = [0u32; 256];
     let mut pairs = [0u32; 128];
-    let s = solve(
-        nodes,
-        edges,
-        end1,
-        end2,
-        cost,
-        mark,
-        ts,
-        mask,
-        &mut costs,
-        &mut pairs,
-    );
-    let new: &[u32; 256] = &costs;
-    answer::write_answer(0, s.steps, edges, new, s.count, &pairs, area, 0)
+    let s = solve(nodes, edges, end1, end2, cost, mark, ts, mask, &mut pairs);
+    answer::write_answer(0, s.steps, edges, cost, s.count, &pairs, area, 0)
 }
 
 // Writes the answer to a job frame into the area, or refuses it and writes nothing.
@@ -79,7 +66,7 @@ pub fn answer(frame: &[u8], area: &mut [u8]) -> Reply
         header,
         &mut end1,
         &mut end2,
-        &cost,
+        &mut cost,
         &mut mark,
         &ts,
         &mask,

@@ -62,16 +62,16 @@ module _ (n : ℕ) (ps : List ℕ) where
 
   module _ (nodes edges p : ℕ) (a : Arrays) where
     abbrev graph : Graph
-    graph = arrayGraph nodes edges (a .links .end₁) (a .links .end₂)
+    graph = arrayGraph nodes edges (a .links .end₁) (a .links .end₂) (a .links .mark)
 
     abbrev holds : Pair → Bool
     holds = pairHolds graph (arrayTree (a .links .mark)) (arrayCost (a .links .cost)) (take p (a .ranks))
 
-    module _ (same : paths (a .mask) ≡ rooted (arrayGraph nodes edges (a .links .end₁) (a .links .end₂)) (take p (a .ranks)) .path) where
+    module _ (same : paths (a .mask) ≡ rooted graph (take p (a .ranks)) .path) where
       pair-model : (t s : ℕ) → pairHeld edges p a t s ≡ holds (record { tree = t; spare = s })
       unfolding pairHeld pairHolds
       pair-model t s =
-          rw (across-covers nodes edges (a .links .end₁) (a .links .end₂) (a .mask) (take p (a .ranks)) same s (rankOf (take p (a .ranks)) t))
+          rw (across-covers nodes edges (a .links .end₁) (a .links .end₂) (a .links .mark) (a .mask) (take p (a .ranks)) same s (rankOf (take p (a .ranks)) t))
 
       pairs-model : pairsHeld edges p a n ps ≡ allBelow (length pairs) (λ i. holds (getD pairs i noPair))
       pairs-model =
@@ -173,7 +173,7 @@ module _ (steps x : ℕ) (cheapest held rise : Bool) (w : ℕ) where
 module _ (j : Job) (nodes edges : ℕ) (a : Arrays) (h : Held j nodes edges a)
     (frame : List ℕ) (r : Contents) (costs ps : List ℕ) (found : contents edges r costs ps ≡ few (readAnswer edges frame)) where
   abbrev graphAt : Graph
-  graphAt = arrayGraph nodes edges (a .links .end₁) (a .links .end₂)
+  graphAt = arrayGraph nodes edges (a .links .end₁) (a .links .end₂) (a .links .mark)
 
   abbrev treeAt : EdgeSet
   treeAt = arrayTree (a .links .mark)
@@ -226,7 +226,8 @@ module _ (j : Job) (nodes edges : ℕ) (a : Arrays) (h : Held j nodes edges a)
     pub verdict-read :
         judgeAnswer j frame
         ≡ fiveTests (r .steps) (sum edges (λ e. gap (getD costs e 0) (getD (a .links .cost) e 0)))
-        (judge (arrayGraph nodes edges (a .links .end₁) (a .links .end₂)) (arrayTree (a .links .mark)) (arrayCost costs) (take (nodes - 1) (a .ranks)))
+        (judge (arrayGraph nodes edges (a .links .end₁) (a .links .end₂) (a .links .mark)) (arrayTree (a .links .mark)) (arrayCost costs)
+        (take (nodes - 1) (a .ranks)))
         (pairsHeld edges (nodes - 1) a (r .count) ps)
         (allBelow (r .count) (pairRises ps))
         (sum (r .count) (fall ps (a .links .cost)))

@@ -38,6 +38,7 @@ module _ {j : Job} {n m : ℕ} {a : Arrays} (h : Held j n m a) where
 
   -- The judge of trees over the arrays is the job's.
   pub judge-held :
-      judge (arrayGraph n m (a .links .end₁) (a .links .end₂)) (arrayTree (a .links .mark)) (arrayCost (a .links .cost)) (take (n - 1) (a .ranks))
+      judge (arrayGraph n m (a .links .end₁) (a .links .end₂) (a .links .mark)) (arrayTree (a .links .mark)) (arrayCost (a .links .cost))
+      (take (n - 1) (a .ranks))
       ≡ judgeTree j
   judge-held i = judge (graph-stored (h .stored) i) (tree-stored (h .stored) i) (h .stored .cost i) (h .ranks i)

@@ -10,7 +10,7 @@ use Rattle.loops.specs.Below.{allBelow}
 use Rattle.loops.specs.Loop.{first}
 use Rattle.bits.specs.Bit.{bit}
 use Rattle.graph.specs.Rank.{costAt}
-use Rattle.paths.specs.Arrays.{arrayTree, paths, across}
+use Rattle.paths.specs.Arrays.{arraySpare, paths, across}
 
 -- Spare s does not cost less than the tree edge of rank k.
 abbrev pub affords : List ℕ → List ℕ → ℕ → ℕ → Bool
@@ -21,9 +21,9 @@ abbrev pub spareHolds : List ℕ → List ℕ → List ℕ → List ℕ → List
 spareHolds ranks as₁ as₂ as₃ mask s =
     allBelow 64 λ k. not (across mask (getD as₁ s 0) (getD as₂ s 0) k) || affords ranks as₃ s k
 
--- A link in the tree, or a spare that holds.
+-- A link that is no spare, or a spare that holds.
 abbrev pub linkHolds : List ℕ → List ℕ → List ℕ → List ℕ → List ℕ → List ℕ → ℕ → Bool
-linkHolds ranks as₁ as₂ as₃ as₄ mask s = arrayTree as₄ s || spareHolds ranks as₁ as₂ as₃ mask s
+linkHolds ranks as₁ as₂ as₃ as₄ mask s = not (arraySpare as₄ s) || spareHolds ranks as₁ as₂ as₃ mask s
 
 -- The first `count` ranks of which each costs no more than any lower one.
 abbrev pub notDearer : ℕ → List ℕ → List ℕ → ℕ → Bool

@@ -3,14 +3,13 @@
 use Prim.Native.Nat.{ℕ, _^_, _≤_, _<_}
 use native.Mathlib.Decide.{decLt, ℕ-discrete}
 use native.Mathlib.Omega.{arith}
-use mathlib.Core.Path.{_≡_, refl, sym, ap, _∙_}
+use mathlib.Core.Path.{_≡_, sym, ap, _∙_}
 use mathlib.Core.Logic.{inl, inr}
 use mathlib.Core.Bool.{Bool, true, false, not, xor, _&&_, _||_}
 use mathlib.Core.List.{List}
 use lib.Dec.{eqb}
 use lib.ListN.{getD, take}
 use lib.Seq.{length-take-le, getD-take}
-use borrow.Author.Tests.{eq-eqb, ne-eqb}
 use Rattle.loops.specs.Below.{allBelow}
 use Rattle.loops.specs.Loop.{first}
 use Rattle.loops.specs.PutLaws.{put-other}
@@ -19,7 +18,7 @@ use Rattle.bits.specs.Bit.{bit}
 use Rattle.bits.specs.BitLaws.{bit-zero}
 use Rattle.bits.specs.ChangeLaws.{or-test}
 use Rattle.graph.specs.Paths.{rooted, judge}
-use Rattle.paths.specs.Arrays.{arrayGraph, arrayTree, arrayCost, paths, across}
+use Rattle.paths.specs.Arrays.{arrayGraph, arrayTree, arraySpare, arrayCost, paths, across}
 use Rattle.paths.specs.WordLaws.{lowest-below, lowest-set, taken-out}
 use Rattle.paths.specs.RootLaws.{across-covers}
 use Rattle.cheapest.specs.Judge.{spareHolds, linkHolds, Spare, FallAlong, Judged}
@@ -50,11 +49,12 @@ word-end ok w e = all-of 64 _ (λ j l. rw (e, bit-zero j))
 -- ---- one link
 
 module _ (ranks as₁ as₂ as₃ as₄ mask : List ℕ) (s : ℕ) where
-  pub link-marked : getD as₄ s 0 ≡ 1 → linkHolds ranks as₁ as₂ as₃ as₄ mask s ≡ true
-  link-marked e = rw (eq-eqb (getD as₄ s 0) 1 e)
+  module _ {spare : Bool} (is : spare ≡ arraySpare as₄ s) where
+    pub link-other : spare ≡ false → linkHolds ranks as₁ as₂ as₃ as₄ mask s ≡ true
+    link-other e = rw (sym is ∙ e)
 
-  pub link-spare : (getD as₄ s 0 ≡ 1 → ⊥) → linkHolds ranks as₁ as₂ as₃ as₄ mask s ≡ spareHolds ranks as₁ as₂ as₃ mask s
-  link-spare d = rw (ne-eqb (getD as₄ s 0) 1 d)
+    pub link-spare : spare ≡ true → linkHolds ranks as₁ as₂ as₃ as₄ mask s ≡ spareHolds ranks as₁ as₂ as₃ mask s
+    link-spare e = rw (sym is ∙ e)
 
 -- ---- all links
 
@@ -95,18 +95,14 @@ judged-spare edges count falling ranks as₁ as₂ as₃ mask h f s l =
       | no b ↦ clash c (across-past edges count ranks as₁ as₂ mask h (getD as₁ s 0) (getD as₂ s 0) k (omega arith))
     ]
 
-marked : (t x y : Bool) → x ≡ y → (t || x) ≡ (not (true && not t) || y)
-marked true x y e = refl
-marked false x y e = e
-
 pub judge-links :
     (nodes edges count : ℕ) (ranks as₁ as₂ as₃ as₄ mask : List ℕ) → Judged edges count ranks as₁ as₂ mask
-    → paths mask ≡ rooted (arrayGraph nodes edges as₁ as₂) (take count ranks) .path
+    → paths mask ≡ rooted (arrayGraph nodes edges as₁ as₂ as₄) (take count ranks) .path
     → allBelow edges (linkHolds ranks as₁ as₂ as₃ as₄ mask)
-    ≡ judge (arrayGraph nodes edges as₁ as₂) (arrayTree as₄) (arrayCost as₃) (take count ranks)
+    ≡ judge (arrayGraph nodes edges as₁ as₂ as₄) (arrayTree as₄) (arrayCost as₃) (take count ranks)
 unfolding judge
 judge-links nodes edges count ranks as₁ as₂ as₃ as₄ mask h same =
-    all-same edges _ _ (λ s l. marked (arrayTree as₄ s) _ _
+    all-same edges _ _ (λ s l. ap (λ b. not (arraySpare as₄ s) || b)
     (sym (all-longer count 64 _ (omega (arith, h .few)) (λ k b. rw (across-past edges count ranks as₁ as₂ mask h (getD as₁ s 0) (getD as₂ s 0) k b)))
     ∙ rw (length-take-le count ranks (h .within)) (all-same count _ _ (λ k b.
-    rw (across-covers nodes edges as₁ as₂ mask (take count ranks) same s k, getD-take count ranks k 0 b)))))
+    rw (across-covers nodes edges as₁ as₂ as₄ mask (take count ranks) same s k, getD-take count ranks k 0 b)))))

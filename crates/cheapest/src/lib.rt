@@ -10,7 +10,7 @@ ghost use Rattle.cheapest.specs.Judge.{spareHolds, notDearer, mayLead, P
 use ids::Edge;
 use ids::Node;
 use ids::TreeRank;
-use limits::TREE_MARK;
+use limits::is_spare;
 use paths::crossing;
 
 // The cost of the tree edge of rank k.
@@ -98,13 +98,14 @@ pub fn judge_ranked(
     requires { ⌜ Judged edges count (now ranks) (now end1) (now end2) (now mask) ⌝ }
     requires { ⌜ FallAlong count falling (now ranks) (now cost) ⌝ }
     ensures { λ r. ⌜ ((nodes : ℕ)
-        → paths (now (mask .entry)) ≡ rooted (arrayGraph nodes edges (now (end1 .entry)) (now (end2 .entry))) (take count (now (ranks .entry))) .path
-        → r ≡ judged (arrayGraph nodes edges (now (end1 .entry)) (now (end2 .entry)))
+        → paths (now (mask .entry))
+        ≡ rooted (arrayGraph nodes edges (now (end1 .entry)) (now (end2 .entry)) (now (mark .entry))) (take count (now (ranks .entry))) .path
+        → r ≡ judged (arrayGraph nodes edges (now (end1 .entry)) (now (end2 .entry)) (now (mark .entry)))
         (arrayTree (now (mark .entry))) (arrayCost (now (cost .entry))) (take count (now (ranks .entry)))) ⌝ }
 {
     let mut e: usize = 0;
     while e < edges {
-        if mark[e] != TREE_MARK {
+        if is_spare(mark[e]) {
             let s = e as u32;
             if !spare_holds(Edge(s), falling, ranks, end1, end2, cost, mask) {
                 return false;
@@ -129,8 +130,9 @@ pub fn judge_unsorted(
 ) -> bool
     requires { ⌜ Judged edges count (now ranks) (now end1) (now end2) (now mask) ⌝ }
     ensures { λ r. ⌜ ((nodes : ℕ)
-        → paths (now (mask .entry)) ≡ rooted (arrayGraph nodes edges (now (end1 .entry)) (now (end2 .entry))) (take count (now (ranks .entry))) .path
-        → r ≡ judged (arrayGraph nodes edges (now (end1 .entry)) (now (end2 .entry)))
+        → paths (now (mask .entry))
+        ≡ rooted (arrayGraph nodes edges (now (end1 .entry)) (now (end2 .entry)) (now (mark .entry))) (take count (now (ranks .entry))) .path
+        → r ≡ judged (arrayGraph nodes edges (now (end1 .entry)) (now (end2 .entry)) (now (mark .entry)))
         (arrayTree (now (mark .entry))) (arrayCost (now (cost .entry))) (take count (now (ranks .entry)))) ⌝ }
 {
     let falling = falling_ranks(ranks, count, cost);

@@ -113,10 +113,12 @@ module _ {g : Graph} (sound : Sound g) {tr : EdgeSet} {ranks : List ℕ} (lists 
       ]
 
   module _ (tree : SpanningTree g tr) (c : ℕ → ℕ) where
-    covers-rank : (s t : ℕ) → s < g .edges → t < g .edges → tr t ≡ true → (coversRank g (rooted g ranks) s (rankOf ranks t) ≡ true) ↔ Covers g tr s t
-    covers-rank s t b l i =
+    covers-rank :
+        (s t : ℕ) → s < g .edges → spareOf g tr s ≡ true → t < g .edges → tr t ≡ true
+        → (coversRank g (rooted g ranks) s (rankOf ranks t) ≡ true) ↔ Covers g tr s t
+    covers-rank s t b spare l i =
         let (k, e) = rank-place t l i in
-        rw e at (covers-means sound lists tree s (rankOf ranks t) b k)
+        rw e at (covers-means sound lists tree s (rankOf ranks t) b (and-first (g .live s) _ spare) k)
 
     -- The judge's test of a pair.
     pair-means : (p : Pair) → (pairHolds g tr c ranks p ≡ true) ↔ (IsPair g tr p × (c (p .spare) < c (p .tree)))
@@ -146,13 +148,14 @@ module _ {g : Graph} (sound : Sound g) {tr : EdgeSet} {ranks : List ℕ} (lists 
             let h₂ : t₂ ≡ true = and-first t₂ _ h₃ in
             let tree-below : p .tree < g .edges = ltb-true _ _ (and-first t₁ _ h₂) in
             let tree-in : tr (p .tree) ≡ true = and-second t₁ _ h₂ in
-            let spare-below : p .spare < g .edges = ltb-true _ _ (and-second t₂ _ h₃) in (
+            let spare-below : p .spare < g .edges = ltb-true _ _ (and-second t₂ _ h₃) in
+            let spare-in : spareOf g tr (p .spare) ≡ true = and-second t₃ _ h₄ in (
               record {
                 tree-below = tree-below;
                 tree-in = tree-in;
                 spare-below = spare-below;
-                spare-in = and-second t₃ _ h₄;
-                covers = covers-rank (p .spare) (p .tree) spare-below tree-below tree-in .0 (and-second t₄ _ h₅);
+                spare-in = spare-in;
+                covers = covers-rank (p .spare) (p .tree) spare-below spare-in tree-below tree-in .0 (and-second t₄ _ h₅);
               },
               ltb-true _ _ (and-second t₅ _ h),
             )
@@ -161,7 +164,7 @@ module _ {g : Graph} (sound : Sound g) {tr : EdgeSet} {ranks : List ℕ} (lists 
         from (i, l) =
             and-both t₅ _
             (and-both t₄ _ (and-both t₃ _ (and-both t₂ _ (and-both t₁ _ (lt-ltb _ _ (i .tree-below)) (i .tree-in)) (lt-ltb _ _ (i .spare-below))) (i .spare-in))
-            (covers-rank (p .spare) (p .tree) (i .spare-below) (i .tree-below) (i .tree-in) .1 (i .covers)))
+            (covers-rank (p .spare) (p .tree) (i .spare-below) (i .spare-in) (i .tree-below) (i .tree-in) .1 (i .covers)))
             (lt-ltb _ _ l)
 
     pairs-mean :

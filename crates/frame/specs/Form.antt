@@ -17,7 +17,7 @@ use Rattle.graph.specs.Graph.{Sound}
 use Rattle.graph.specs.RankLaws.{tree-lists}
 use Rattle.graph.specs.Tree.{tree-means}
 use Rattle.frame.specs.Job.{Job, link, graphOf, treeOf, costOf}
-use Rattle.limits.specs.Limits.{maxNodes, maxEdges}
+use Rattle.limits.specs.Limits.{maxNodes, maxEdges, treeMark, unpluggedMark}
 use Rattle.frame.specs.Questions.{numbers, question1, question2, question3, question4, question5}
 use Rattle.frame.specs.Questions.{question6, ask, numberQuestions, jobOf, layoutRefusal, jobRefusal, formRefusal, refusal, later}
 use Rattle.frame.specs.Meaning.{Divides, Counted, Complete, EndsHold, MarksHold, TreeHolds, Formed, FirstNo, FirstNoWith, nodeCount, edgeCount, jobFrom}
@@ -90,27 +90,37 @@ question4-means j = (
     at : question4 j ≡ true → (e : ℕ) → e < length (j .links) → (below₁ e && below₂ e && apart e) ≡ true
     at h e l = all-at (length (j .links)) (λ e. below₁ e && below₂ e && apart e) h e l
 
-pub mark-means : (m : ℕ) → (leb m 1 ≡ true) ↔ ((m ≡ 0) ⊎ (m ≡ 1))
-mark-means m = (λ h. split m (leb-true m 1 h), λ h. le-leb m 1 (⊎-elim (λ p. omega arith) (λ p. omega arith) h))
+pub mark-means : (m : ℕ) → (leb m unpluggedMark ≡ true) ↔ ((m ≡ 0) ⊎ (m ≡ 1) ⊎ (m ≡ 2))
+mark-means m = (λ h. split m (leb-true m unpluggedMark h), λ h. le-leb m unpluggedMark (join h))
   where
-    split : (m : ℕ) → m ≤ 1 → (m ≡ 0) ⊎ (m ≡ 1)
+    split : (m : ℕ) → m ≤ 2 → (m ≡ 0) ⊎ (m ≡ 1) ⊎ (m ≡ 2)
     split zero h = inl refl
-    split (suc m) h = inr (omega arith)
+    split (suc zero) h = inr (inl refl)
+    split (suc (suc m)) h = inr (inr (omega arith))
+
+    join : (m ≡ 0) ⊎ (m ≡ 1) ⊎ (m ≡ 2) → m ≤ 2
+    join (inl p) = omega arith
+    join (inr (inl p)) = omega arith
+    join (inr (inr p)) = omega arith
 
 pub question5-means : (j : Job) → (question5 j ≡ true) ↔ MarksHold j
 unfolding question5
 question5-means j = (
-  λ h e l. mark-means (link j e .mark) .0 (all-at (length (j .links)) (λ e. leb (link j e .mark) 1) h e l),
-  λ h. all-of (length (j .links)) (λ e. leb (link j e .mark) 1) (λ e l. mark-means (link j e .mark) .1 (h e l)),
+  λ h e l. mark-means (link j e .mark) .0 (all-at (length (j .links)) (λ e. leb (link j e .mark) unpluggedMark) h e l),
+  λ h. all-of (length (j .links)) (λ e. leb (link j e .mark) unpluggedMark) (λ e l. mark-means (link j e .mark) .1 (h e l)),
 )
 
 -- Question 4 makes the graph sound.
 pub ends-sound : (j : Job) → EndsHold j → Sound (graphOf j)
 ends-sound j h = record { first = h .first; second = h .second; differ = h .differ }
 
+-- Tree links are plugged.
+pub tree-usable : (j : Job) (e : ℕ) → treeOf j e ≡ true → graphOf j .live e ≡ true
+tree-usable j e t = rw (eqb-true (link j e .mark) treeMark t) refl
+
 pub question6-means : (j : Job) → 1 ≤ j .nodes → EndsHold j → (question6 j ≡ true) ↔ TreeHolds j
 unfolding question6
-question6-means j l h = tree-means (ends-sound j h) (tree-lists (graphOf j) (treeOf j) (costOf j)) l (λ e b t. refl)
+question6-means j l h = tree-means (ends-sound j h) (tree-lists (graphOf j) (treeOf j) (costOf j)) l (λ e b. tree-usable j e)
 
 -- A question is answered "no" exactly where what it means does not hold.
 refutes : {A : Type 0} {b : Bool} → (b ≡ true) ↔ A → b ≡ false → A → ⊥

@@ -1,14 +1,12 @@
 -- A job, its layout as a frame, and the graph that it describes. Definitions only. Assumes nothing.
 use Prim.Native.Nat.{ℕ}
-use mathlib.Core.Bool.{true}
 use mathlib.Core.List.{List, [], _∷_, flatMap}
-use lib.Dec.{eqb}
 use lib.ListN.{length, getD}
-use Rattle.limits.specs.Limits.{numberBytes, treeMark}
+use Rattle.limits.specs.Limits.{numberBytes, marksTree, marksPlugged}
 use Rattle.number.specs.Number.{encode}
 use Rattle.graph.specs.Graph.{Graph, EdgeSet}
 
--- A link: two ends (station numbers), cost and mark (1 tree, 0 spare).
+-- A link: two ends (station numbers), cost and mark (1 tree, 0 spare, 2 laid but not plugged).
 pub record JobLink : Type 0 where
   pub end₁ : ℕ
   pub end₂ : ℕ
@@ -43,7 +41,7 @@ bytesOf ns = bytesBy numberBytes ns
 abbrev pub jobFrame : Job → List ℕ
 jobFrame j = bytesOf (jobNumbers j)
 
--- The job's graph, with every link usable; the marked tree; the old costs.
+-- The job's graph, in which the plugged links may be used; the marked tree; the old costs.
 abbrev pub graphOf : Job → Graph
 graphOf j =
     record {
@@ -51,11 +49,11 @@ graphOf j =
       edges = length (j .links);
       end₁ = λ e. link j e .end₁;
       end₂ = λ e. link j e .end₂;
-      live = λ _. true;
+      live = λ e. marksPlugged (link j e .mark);
     }
 
 abbrev pub treeOf : Job → EdgeSet
-treeOf j e = eqb (link j e .mark) treeMark
+treeOf j e = marksTree (link j e .mark)
 
 abbrev pub costOf : Job → ℕ → ℕ
 costOf j e = link j e .cost

@@ -16,4 +16,5 @@ pub mod AnswerLayout
 pub mod AnswerJudge
 pub mod Finders
 pub mod OwnAnswer
+pub mod Unplugged
 pub mod Outcomes

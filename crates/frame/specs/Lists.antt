@@ -2,7 +2,7 @@
 use Prim.Native.Nat.{ℕ, suc, _+_, _*_, _-_, _<_, _≤_}
 use native.Mathlib.Omega.{arith}
 use mathlib.Core.Path.{_≡_, refl, sym, ap, _∙_}
-use mathlib.Core.Logic.{_⊎_, ⊎-elim}
+use mathlib.Core.Logic.{_⊎_}
 use mathlib.Core.Bool.{Bool, true, false, _&&_}
 use mathlib.Core.List.{List, [], _∷_, _++_, flatMap}
 use mathlib.Core.Option.{some}
@@ -14,13 +14,13 @@ use Rattle.loops.specs.TestLaws.{and-first, and-second, all-at}
 use Rattle.number.specs.Number.{encode}
 use Rattle.number.specs.Laws.{encode-size-last, encode-size-most, encode-size-below}
 use Rattle.frame.specs.Job.{JobLink, Job, noLink, link, fields, jobNumbers, bytesOf, jobFrame}
-use Rattle.limits.specs.Limits.{maxNodes, maxEdges, maxNumber, numberBytes, jobMost}
+use Rattle.limits.specs.Limits.{maxNodes, maxEdges, maxNumber, numberBytes, jobMost, unpluggedMark}
 use Rattle.frame.specs.Questions.{jobOf, numbers, question1, question2, question4, question5}
 use Rattle.frame.specs.Questions.{ask, numberQuestions, layoutRefusal, formRefusal, counted, listQuestions, listLayoutRefusal, listFormRefusal}
 use Rattle.frame.specs.Services.{smallNumbers, small}
 use Rattle.frame.specs.Meaning.{Small, Complete, EndsHold, MarksHold}
 use Rattle.frame.specs.Division.{small-cons, divide-complete}
-use Rattle.frame.specs.Form.{question3-means, question4-means, question5-means}
+use Rattle.frame.specs.Form.{mark-means, question3-means, question4-means, question5-means}
 use Rattle.frame.specs.RoundTrip.{flatMap-append, numbers-job}
 
 small-link : (l : JobLink) → smallNumbers l ≡ true → (rest : List ℕ) → Small rest → Small (fields l ++ rest)
@@ -142,8 +142,8 @@ counted-limits j h =
       leb-true (length (j .links)) maxEdges (and-second (leb 1 (j .nodes) && leb (j .nodes) maxNodes) (leb (length (j .links)) maxEdges) h),
     )
 
-mark-small : (m : ℕ) → (m ≡ 0) ⊎ (m ≡ 1) → m < 128
-mark-small m h = ⊎-elim (λ p. omega arith) (λ p. omega arith) h
+mark-small : (m : ℕ) → (m ≡ 0) ⊎ (m ≡ 1) ⊎ (m ≡ 2) → m < 128
+mark-small m h = omega (arith, leb-true m unpluggedMark (mark-means m .1 h))
 
 -- A link takes a byte for each of its ends and for its mark, where these are below 128, and those of its cost.
 link-size : (l : JobLink) → l .end₁ < 128 → l .end₂ < 128 → l .mark < 128 → length (bytesOf (fields l)) ≤ 3 + numberBytes

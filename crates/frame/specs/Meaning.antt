@@ -60,9 +60,9 @@ pub record EndsHold (j : Job) : Type 0 where
   pub second : (e : ℕ) → e < length (j .links) → link j e .end₂ < j .nodes
   pub differ : (e : ℕ) → e < length (j .links) → link j e .end₁ ≢ link j e .end₂
 
--- 5. Every mark is 0 or 1.
+-- 5. Every mark is 0, 1 or 2.
 abbrev pub MarksHold : Job → Type 0
-MarksHold j = (e : ℕ) → e < length (j .links) → (link j e .mark ≡ 0) ⊎ (link j e .mark ≡ 1)
+MarksHold j = (e : ℕ) → e < length (j .links) → (link j e .mark ≡ 0) ⊎ (link j e .mark ≡ 1) ⊎ (link j e .mark ≡ 2)
 
 -- 6. There are (stations − 1) tree links, and they join all stations.
 abbrev pub TreeHolds : Job → Type 0

@@ -72,7 +72,7 @@ answer-most a l links =
 module _ (j : Job) (accepted : Accepted j) where
   -- The third demand holds of the answer to an accepted job.
   pub own : Demanded (graphOf j) (treeOf j) (costOf j) (answerOf j)
-  own = demand (graphOf j) (accepted .sound) (λ e l. refl) (treeOf j) (accepted .tree) (costOf j)
+  own = demand (graphOf j) (accepted .sound) (treeOf j) (accepted .tree) (costOf j)
 
   few : length (answerOf j .pairs) ≤ 63
   few = omega (arith, pairs-few own, accepted .tree .size, accepted .node-limit)
@@ -93,7 +93,7 @@ module _ (j : Job) (accepted : Accepted j) where
         small =
             small-append (answerOf j .costs) (length (answerOf j .pairs) ∷ flatMap both (answerOf j .pairs))
             (small-places (answerOf j .costs) (λ i l.
-            new-most (graphOf j) (λ e l. refl) (treeOf j) (costOf j) maxNumber (λ e l. cost-small j (accepted .small) e) i (omega (arith, own .count))))
+            new-most (graphOf j) (treeOf j) (costOf j) maxNumber (λ e l. cost-small j (accepted .small) e) i (omega (arith, own .count))))
             (small-cons (length (answerOf j .pairs)) (flatMap both (answerOf j .pairs)) (omega (arith, few))
             (λ i. omega (arith, paired i)));
         count = own .count;

@@ -11,7 +11,7 @@ use Rattle.number.specs.Number.{Decoded, decode}
 use Rattle.graph.specs.Rank.{treeRanks}
 use Rattle.graph.specs.Paths.{isTree}
 use Rattle.frame.specs.Job.{Job, link, graphOf, treeOf, costOf}
-use Rattle.limits.specs.Limits.{maxNodes, maxEdges, numberBytes}
+use Rattle.limits.specs.Limits.{maxNodes, maxEdges, numberBytes, unpluggedMark}
 use Rattle.frame.specs.Meaning.{nodeCount, edgeCount, jobFrom}
 use Rattle.frame.specs.Services.{small}
 
@@ -54,9 +54,9 @@ question4 j =
     allBelow (length (j .links)) λ e.
     ltb (link j e .end₁) (j .nodes) && ltb (link j e .end₂) (j .nodes) && not (eqb (link j e .end₁) (link j e .end₂))
 
--- 5. Is every mark 0 or 1?
+-- 5. Is every mark 0, 1 or 2?
 unfoldable pub question5 : Job → Bool
-question5 j = allBelow (length (j .links)) λ e. leb (link j e .mark) 1
+question5 j = allBelow (length (j .links)) λ e. leb (link j e .mark) unpluggedMark
 
 -- 6. Are there (stations − 1) tree links, and do they join all stations?
 unfoldable pub question6 : Job → Bool

@@ -16,9 +16,9 @@ use Rattle.graph.specs.Walks.{walk-member, Simple, simple-walk}
 use Rattle.graph.specs.Sides.{Cut, side-changes, crossing, tree-side, tree-cut}
 use Rattle.graph.specs.Swap.{swap, swap-out, swap-other, swap-total, swap-tree}
 
--- Every usable edge outside the tree costs at least each tree edge that it covers.
+-- Every edge outside the tree costs at least each tree edge that it covers.
 abbrev pub Test : Graph → EdgeSet → (ℕ → ℤ) → Type 0
-Test g tr d = (s t : ℕ) → s < g .edges → g .live s ≡ true → tr s ≡ false → Covers g tr s t → d t ≤ℤ d s
+Test g tr d = (s t : ℕ) → s < g .edges → tr s ≡ false → Covers g tr s t → d t ≤ℤ d s
 
 -- The edges of S outside tr.
 outside : EdgeSet → EdgeSet → EdgeSet
@@ -67,13 +67,13 @@ outside-swap m S tr s t k i o j =
 module _ {g : Graph} (sound : Sound g) {tr : EdgeSet} (tree : SpanningTree g tr) (d : ℕ → ℤ) where
   -- A minimum passes the test: a tree edge could be swapped for any edge that covers it.
   minimum-test : Minimum g tr d → Test g tr d
-  minimum-test least s t k v o c = cheaper (walk-member (c .walk) (c .holds))
+  minimum-test least s t k o c = cheaper (walk-member (c .walk) (c .holds))
     where
       cheaper : (t < g .edges) × (tr t ≡ true) → d t ≤ℤ d s
       cheaper (l, i) =
           let cut : Cut g tr t (tree-side g tr t) = tree-cut tree l i in
           exchange (swap-total (g .edges) tr t s l k i o d) .0
-          (least (swap tr t s) (swap-tree sound tree l k cut (side-changes cut (c .walk) (c .simple) (c .holds)) i o v))
+          (least (swap tr t s) (swap-tree sound tree l k cut (side-changes cut (c .walk) (c .simple) (c .holds)) i o (c .usable)))
 
   -- An edge s of a spanning tree S outside tr covers an edge of tr outside S that lies between the two sides of s.
   record Partner (S : EdgeSet) (s : ℕ) : Type 0 where
@@ -97,7 +97,7 @@ module _ {g : Graph} (sound : Sound g) {tr : EdgeSet} (tree : SpanningTree g tr)
           let (t, m, q) = crossing (tree-side g S s) (r .1) (cut .itself) in
           record {
             edge = t;
-            covered = record { path = r .0; walk = r .1; simple = r .2; holds = m };
+            covered = record { usable = other .usable s k i; path = r .0; walk = r .1; simple = r .2; holds = m };
             absent = missing t (walk-member (r .1) m) q (S t) refl;
             between = q;
           }
@@ -125,7 +125,7 @@ module _ {g : Graph} (sound : Sound g) {tr : EdgeSet} (tree : SpanningTree g tr)
               swap S s t,
               swap-tree sound other k l (tree-cut other k i) (p .between) i (p .absent) (tree .usable t l j),
               outside-swap (g .edges) S tr s t k i o j,
-              exchange (sym (swap-total (g .edges) S s t k l i (p .absent) d)) .1 (test s t k (other .usable s k i) o (p .covered)),
+              exchange (sym (swap-total (g .edges) S s t k l i (p .absent) d)) .1 (test s t k o (p .covered)),
             )
 
     descend : (n : ℕ) (S : EdgeSet) → SpanningTree g S → count (g .edges) (outside S tr) < n → total (g .edges) tr d ≤ℤ total (g .edges) S d

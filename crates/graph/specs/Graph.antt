@@ -9,7 +9,7 @@ use lib.IntN.{ℤ, pos, _+ℤ_}
 use lib.Signed.{_≤ℤ_}
 
 -- The bus: its stations are the nodes, its links the edges. Edge e joins the nodes `end₁ e` and `end₂ e`;
--- two edges may join the same nodes. Only the edges marked `live` may be used: in a job, all of them.
+-- two edges may join the same nodes. Only the edges marked `live` may be used: in a job, those whose links are plugged.
 pub record Graph : Type 0 where
   pub nodes : ℕ
   pub edges : ℕ
@@ -70,8 +70,10 @@ abbrev pub NoneTwice : List ℕ → Type 0
 NoneTwice [] = Unit {0}
 NoneTwice (x ∷ xs) = (List·Memᴰ x xs → ⊥) × NoneTwice xs
 
--- "Lies over": the tree path between the ends of edge s holds edge t. A path takes no edge twice.
+-- "Lies over": edge s may be used, and the tree path between its ends holds edge t. A path takes no edge twice. So an edge that
+-- may not be used lies over nothing.
 pub record Covers (g : Graph) (tr : EdgeSet) (s t : ℕ) : Type 0 where
+  pub usable : g .live s ≡ true
   pub path : List ℕ
   pub walk : Walk g tr (g .end₁ s) (g .end₂ s) path
   pub simple : NoneTwice path

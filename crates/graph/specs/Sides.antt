@@ -38,17 +38,21 @@ module _ {g : Graph} {S : EdgeSet} {t : ℕ} {side : ℕ → Bool} (c : Cut g S 
         | inr o ↦ λ q. side-changes x (n .1) o (sym (leads-equal side l .0 (c .others e k s (λ p. n .0 (Memᴰ·cast p o)))) ∙ q)
       ]
 
--- s covers t exactly when the ends of s lie on different sides of t.
+-- An edge s that may be used covers t exactly when the ends of s lie on different sides of t.
 pub covers-side :
     (g : Graph) (tr : EdgeSet) (t : ℕ) (side : ℕ → Bool) →
     Cut g tr t side →
     (s : ℕ) →
+    g .live s ≡ true →
     Joined g tr (g .end₁ s) (g .end₂ s) →
     Covers g tr s t ↔ (side (g .end₁ s) ≢ side (g .end₂ s))
-covers-side g tr t side c s j = (λ v. side-changes c (v .walk) (v .simple) (v .holds), λ d. covered d (simple-walk (j .1)))
+covers-side g tr t side c s usable j = (λ v. side-changes c (v .walk) (v .simple) (v .holds), λ d. covered d (simple-walk (j .1)))
   where
     covered : side (g .end₁ s) ≢ side (g .end₂ s) → Simple g tr (g .end₁ s) (g .end₂ s) → Covers g tr s t
-    covered d r = elim (member? t (r .0)) [ yes m ↦ record { path = r .0; walk = r .1; simple = r .2; holds = m } | no n ↦ absurd (d (side-stays c (r .1) n)) ]
+    covered d r = elim (member? t (r .0)) [
+      | yes m ↦ record { usable = usable; path = r .0; walk = r .1; simple = r .2; holds = m }
+      | no n ↦ absurd (d (side-stays c (r .1) n))
+    ]
 
 -- A walk between different sides takes an edge whose ends lie on different sides.
 pub crossing :

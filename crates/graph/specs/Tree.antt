@@ -346,15 +346,16 @@ module _ {g : Graph} (sound : Sound g) {tr : EdgeSet} {ranks : List ℕ} (lists 
           let (j, m, p) = lists .every e b s in
           rw (← p) (all-ends tree j m .others k (λ q. d (sym p ∙ ap (λ i. getD ranks i 0) (sym q))))
 
-  -- An edge covers a tree edge exactly when the paths of its ends differ at that rank.
+  -- An edge that may be used covers a tree edge exactly when the paths of its ends differ at that rank.
   pub covers-means :
       SpanningTree g tr →
       (s k : ℕ) →
       s < g .edges →
+      g .live s ≡ true →
       k < length ranks →
       (coversRank g (rooted g ranks) s k ≡ true) ↔ Covers g tr s (getD ranks k 0)
-  covers-means tree s k b l =
-      let sides = covers-side g tr (getD ranks k 0) (λ v. rooted g ranks .path v k) (rank-cut tree k l) s
+  covers-means tree s k b usable l =
+      let sides = covers-side g tr (getD ranks k 0) (λ v. rooted g ranks .path v k) (rank-cut tree k l) s usable
       (tree .joins (g .end₁ s) (g .end₂ s) (sound .first s b) (sound .second s b)) in
       (λ h. sides .1 (xor-means _ _ .0 h), λ v. xor-means _ _ .1 (sides .0 v))
 
@@ -367,11 +368,11 @@ module _ {g : Graph} (sound : Sound g) {tr : EdgeSet} {ranks : List ℕ} (lists 
       test = criterion g sound tr tree (λ e. pos (c e))
 
       holds : judge g tr c ranks ≡ true → Test g tr (λ e. pos (c e))
-      holds h s t b live out v =
+      holds h s t b out v =
           let (l, i) = walk-member (v .walk) (v .holds) in
           let (k, m, p) = lists .every t l i in
-          let spare : spareOf g tr s ≡ true = and-both (g .live s) (not (tr s)) live (ap not out) in
-          let over : coversRank g (rooted g ranks) s k ≡ true = covers-means tree s k b m .1 (rw p v) in
+          let spare : spareOf g tr s ≡ true = and-both (g .live s) (not (tr s)) (v .usable) (ap not out) in
+          let over : coversRank g (rooted g ranks) s k ≡ true = covers-means tree s k b (v .usable) m .1 (rw p v) in
           let less : c (getD ranks k 0) ≤ c s = leb-true _ _ (or-means _ _ .0 (all-at _ _ (or-means _ _ .0 (all-at _ _ h s b) spare) k m) over) in
           pos-le (rw p at less)
 
@@ -387,4 +388,6 @@ module _ {g : Graph} (sound : Sound g) {tr : EdgeSet} {ranks : List ℕ} (lists 
               coversRank g (rooted g ranks) s k ≡ true →
               c (getD ranks k 0) ≤ c s
           less s b spare k m over =
-              le-pos (h s (getD ranks k 0) b (and-first _ _ spare) (not-true (tr s) (and-second (g .live s) _ spare)) (covers-means tree s k b m .0 over))
+              let usable : g .live s ≡ true = and-first (g .live s) _ spare in
+              let out : tr s ≡ false = not-true (tr s) (and-second (g .live s) _ spare) in
+              le-pos (h s (getD ranks k 0) b out (covers-means tree s k b usable m .0 over))

@@ -2,11 +2,10 @@
 use Prim.Native.Nat.{ℕ, _-_, _≤_, _<_}
 use native.Mathlib.Omega.{arith}
 use mathlib.Core.Path.{_≡_, sym, ap, _∙_}
-use mathlib.Core.Bool.{true}
 use mathlib.Core.List.{List}
-use lib.Dec.{eqb}
 use lib.ListN.{length, getD, take}
 use lib.Seq.{getD-take}
+use Rattle.limits.specs.Limits.{marksTree, marksPlugged}
 use Rattle.graph.specs.Graph.{EdgeSet}
 use Rattle.graph.specs.Rank.{treeRanks, costAt}
 use Rattle.graph.specs.RankLaws.{tree-lists}
@@ -19,11 +18,18 @@ use Rattle.paths.specs.Arrays.{arrayGraph, arrayTree, paths}
 use Rattle.held.specs.Held.{Stored, Held}
 
 module _ {j : Job} {n m : ℕ} {c : Columns} (k : Stored j n m c) where
-  pub graph-stored : arrayGraph n m (c .end₁) (c .end₂) ≡ graphOf j
-  graph-stored i = record { nodes = k .nodes-are i; edges = k .edges-are i; end₁ = k .end₁ i; end₂ = k .end₂ i; live = λ _. true }
+  pub graph-stored : arrayGraph n m (c .end₁) (c .end₂) (c .mark) ≡ graphOf j
+  graph-stored i =
+      record {
+        nodes = k .nodes-are i;
+        edges = k .edges-are i;
+        end₁ = k .end₁ i;
+        end₂ = k .end₂ i;
+        live = λ e. marksPlugged (k .mark i e);
+      }
 
   pub tree-stored : _≡_ {A = EdgeSet} (arrayTree (c .mark)) (treeOf j)
-  tree-stored i = λ e. eqb (k .mark i e) 1
+  tree-stored i = λ e. marksTree (k .mark i e)
 
   -- The job of the arrays is the one that they store.
   pub stored-job : jobAt n m c ≡ j
@@ -58,5 +64,5 @@ module _ {j : Job} {n m : ℕ} {a : Arrays} (h : Held j n m a) where
       omega (arith, tree-at k l, below, h .stored .edges-are)
 
   -- The tree paths, as those of the graph in the arrays.
-  pub paths-held : paths (a .mask) ≡ rooted (arrayGraph n m (a .links .end₁) (a .links .end₂)) (take (n - 1) (a .ranks)) .path
+  pub paths-held : paths (a .mask) ≡ rooted (arrayGraph n m (a .links .end₁) (a .links .end₂) (a .links .mark)) (take (n - 1) (a .ranks)) .path
   paths-held = h .paths ∙ sym (λ i. rooted (graph-stored (h .stored) i) (h .ranks i) .path)

@@ -1,2 +1,3 @@
--- The limits of the format.
+-- The limits and the marks of the format.
 pub mod Limits
+pub mod MarkLaws

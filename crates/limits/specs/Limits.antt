@@ -1,5 +1,7 @@
--- The limits of the format. Definitions only. Assumes nothing.
+-- The limits and the marks of the format. Definitions only. Assumes nothing.
 use Prim.Native.Nat.{ℕ, _^_, _-_}
+use mathlib.Core.Bool.{Bool, not, _&&_}
+use lib.Dec.{ltb, eqb}
 
 -- Stations and links of a job.
 abbrev pub maxNodes : ℕ
@@ -39,6 +41,23 @@ sheetMost = 1410
 abbrev pub costsMost : ℕ
 costsMost = 768
 
--- The mark of a tree link.
+-- The mark of a spare link, of a tree link, and of a link that is laid but not plugged, which is the largest mark.
+abbrev pub spareMark : ℕ
+spareMark = 0
+
 abbrev pub treeMark : ℕ
 treeMark = 1
+
+abbrev pub unpluggedMark : ℕ
+unpluggedMark = 2
+
+-- What a mark says of a link: it is in the marked tree; it is plugged, so that a spanning tree may take it; it is spare, so
+-- plugged and not in the tree.
+abbrev pub marksTree : ℕ → Bool
+marksTree m = eqb m treeMark
+
+abbrev pub marksPlugged : ℕ → Bool
+marksPlugged m = ltb m unpluggedMark
+
+abbrev pub marksSpare : ℕ → Bool
+marksSpare m = marksPlugged m && not (marksTree m)

@@ -6,6 +6,7 @@ use mathlib.Core.List.{List, map}
 use lib.Dec.{ltb, leb, eqb}
 use lib.ListN.{length, getD}
 use Rattle.loops.specs.Below.{allBelow}
+use Rattle.limits.specs.Limits.{unpluggedMark}
 use Rattle.frame.specs.Job.{JobLink}
 use Rattle.frame.specs.Arrays.{Columns, linkAt}
 use Rattle.frame.specs.Questions.{ask}
@@ -35,7 +36,7 @@ abbrev pub endsHold : ℕ → ℕ → List ℕ → List ℕ → Bool
 endsHold n m as₁ as₂ = allBelow m (apartAt n as₁ as₂)
 
 abbrev pub markedAt : List ℕ → ℕ → Bool
-markedAt as₄ e = leb (getD as₄ e 0) 1
+markedAt as₄ e = leb (getD as₄ e 0) unpluggedMark
 
 abbrev pub marksHold : ℕ → List ℕ → Bool
 marksHold m as₄ = allBelow m (markedAt as₄)

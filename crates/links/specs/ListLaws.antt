@@ -8,7 +8,7 @@ use borrow.Author.Tests.{le-leb, lt-leb}
 use Rattle.loops.specs.Below.{allBelow}
 use Rattle.loops.specs.GatherLaws.{getD-tabulate}
 use Rattle.frame.specs.Job.{JobLink, noLink, link}
-use Rattle.limits.specs.Limits.{maxNumber, maxNodes, maxEdges}
+use Rattle.limits.specs.Limits.{maxNumber, maxNodes, maxEdges, unpluggedMark}
 use Rattle.frame.specs.Services.{smallNumbers, small}
 use Rattle.frame.specs.Questions.{ask, counted, listLayoutRefusal, question4, question5}
 use Rattle.frame.specs.Arrays.{Columns, linkAt, linksAt, jobAt}
@@ -67,7 +67,7 @@ module _ (nodes edges : ℕ) (c : Columns) where
 
   pub list-marks : question5 (jobAt nodes edges c) ≡ marksHold edges (c .mark)
   unfolding question5
-  list-marks = rows-all (λ (l : JobLink). leb (l .mark) 1)
+  list-marks = rows-all (λ (l : JobLink). leb (l .mark) unpluggedMark)
 
   -- The first refusal of the two, over arrays.
   pub list-links :

@@ -9,6 +9,7 @@ use limits::MOST_COUNT;
 use limits::MOST_LENGTH;
 use limits::MOST_NODES;
 use limits::MOST_NUMBER;
+use limits::UNPLUGGED_MARK;
 
 // Question 4 of one link.
 fn ends_apart(nodes: u32, a: u32, b: u32) -> bool
@@ -39,7 +40,7 @@ fn ends_hold(nodes: u32, edges: usize, end1: &[u32; 256], end2: &[u32; 256]) -> 
     holds
 }
 
-// Question 5 over arrays: every mark is 0 or 1. No exit inside the loop, either.
+// Question 5 over arrays: every mark is 0, 1 or 2. No exit inside the loop, either.
 fn marks_hold(edges: usize, mark: &[u32; 256]) -> bool
     requires { ⌜ edges ≤ 256 ⌝ }
     ensures { λ r. ⌜ r ≡ marksHold edges (now (mark .entry)) ⌝ }
@@ -47,7 +48,7 @@ fn marks_hold(edges: usize, mark: &[u32; 256]) -> bool
     let mut holds = true;
     let mut e: usize = 0;
     while e < edges {
-        holds = holds & (mark[e] <= 1);
+        holds = holds & (mark[e] <= UNPLUGGED_MARK);
         e += 1;
     }
     holds

@@ -78,6 +78,12 @@ module _ {A : Type 0} (f : A → ℕ) where
   sumOver-append [] ys = omega arith
   sumOver-append (x ∷ xs) ys = omega (arith, sumOver-append xs ys)
 
+  pub sumOver-same : (g : A → ℕ) (xs : List A) → ((x : A) → List·Memᴰ x xs → f x ≡ g x) → sumOver f xs ≡ sumOver g xs
+  unfolding sumOver
+  sumOver-same g [] same = refl
+  sumOver-same g (x ∷ xs) same =
+      omega (arith, same x (List·Memᴰ·head refl), sumOver-same g xs (λ y m. same y (List·Memᴰ·tail m)))
+
   -- At most so many terms of at most so much.
   pub sumOver-most : (xs : List A) (b : ℕ) → ((x : A) → List·Memᴰ x xs → f x ≤ b) → sumOver f xs ≤ length xs * b
   unfolding sumOver

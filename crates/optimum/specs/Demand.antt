@@ -1,8 +1,6 @@
 -- The third demand, proved of the answer that the model computes. This is the file to open first. Assumes nothing.
-use Prim.Native.Nat.{ℕ, _<_}
+use Prim.Native.Nat.{ℕ}
 use native.Mathlib.Omega.{arith}
-use mathlib.Core.Path.{_≡_}
-use mathlib.Core.Bool.{true}
 use Rattle.graph.specs.Graph.{Graph, Sound, EdgeSet, SpanningTree}
 use Rattle.optimum.specs.Optimum.{LowestBest, Answer, chosen, Demanded}
 use Rattle.optimum.specs.Solve.{solve}
@@ -19,8 +17,8 @@ use Rattle.optimum.specs.SolveProof.{
 }
 
 -- A job that has passed the questions is a graph g of stations and links (`Sound`: every link joins two different stations),
--- all of its links usable, a marked tree tr (`SpanningTree`), and old costs c, any natural numbers. `solve g tr c` is the
--- answer, and `Demanded` (Optimum.antt) has one field for each clause of the demand:
+-- some of its links plugged and so usable, a marked tree tr of such links (`SpanningTree`), and old costs c, any natural
+-- numbers. `solve g tr c` is the answer, and `Demanded` (Optimum.antt) has one field for each clause of the demand:
 --
 --   count     there is one answered cost for each link
 --   minimum   "the answered costs make the marked tree cheapest"
@@ -35,15 +33,15 @@ use Rattle.optimum.specs.SolveProof.{
 --   falls     ".. each with the tree link's old cost above the spare's."
 --   weighs    "The old costs' differences over these pairs, tree less spare, add up to exactly that count."
 pub demand :
-    (g : Graph) → Sound g → ((e : ℕ) → e < g .edges → g .live e ≡ true) → (tr : EdgeSet) → SpanningTree g tr
+    (g : Graph) → Sound g → (tr : EdgeSet) → SpanningTree g tr
     → (c : ℕ → ℕ) → Demanded g tr c (solve g tr c)
-demand g sound live tr tree c =
+demand g sound tr tree c =
     record {
       count = solve-count g tr c;
       minimum = solve-minimum g tr c sound tree;
-      steps = solve-steps g tr c live;
-      fewest = solve-fewest g tr c live sound tree;
-      lowest = solve-lowest g tr c live sound tree;
+      steps = solve-steps g tr c;
+      fewest = solve-fewest g tr c sound tree;
+      lowest = solve-lowest g tr c sound tree;
       matching = solve-matching g tr c sound tree;
       rising = solve-rising g tr c;
       falls = solve-falls g tr c;

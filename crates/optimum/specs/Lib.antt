@@ -15,6 +15,7 @@ pub mod MatchingProof
 pub mod Labelling
 pub mod LowestProof
 pub mod PairLaws
+pub mod PairBound
 pub mod Solution
 pub mod RankCriterion
 pub mod SolveProof

@@ -21,7 +21,7 @@ pub ordered-rising : (ps : List Pair) → Ordered (λ p q. p .tree < q .tree) ps
 ordered-rising [] o = tt
 ordered-rising (p ∷ ps) o = (o .0, ordered-rising ps (o .1))
 
-both-from : (ps : List Pair) (e : ℕ) → List·Memᴰ e (flatMap both ps) → (q : Pair) × List·Memᴰ q ps × ((e ≡ q .tree) ⊎ (e ≡ q .spare))
+pub both-from : (ps : List Pair) (e : ℕ) → List·Memᴰ e (flatMap both ps) → (q : Pair) × List·Memᴰ q ps × ((e ≡ q .tree) ⊎ (e ≡ q .spare))
 unfolding flatMap
 both-from [] e m = absurd (List·Memᴰ·not-nil m)
 both-from (p ∷ ps) e m = at-tree (λ r. both-from ps e r) (List·Memᴰ·cases-cons m)

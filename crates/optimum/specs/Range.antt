@@ -8,7 +8,7 @@ use mathlib.Core.Logic.{_≢_, inl, inr}
 use mathlib.Core.Bool.{true, false, not}
 use mathlib.Core.List.{List·Memᴰ}
 use lib.ListN.{length, getD}
-use Rattle.loops.specs.TestLaws.{and-both}
+use Rattle.loops.specs.TestLaws.{truth, and-both}
 use Rattle.loops.specs.SumLaws.{sumOver, sumOver-most}
 use Rattle.graph.specs.Graph.{Graph, EdgeSet, count}
 use Rattle.graph.specs.Rank.{treeRanks, spareRanks}
@@ -21,13 +21,13 @@ use Rattle.optimum.specs.Matched.{free, pair, mate}
 use Rattle.optimum.specs.LowestProof.{Old, labels-old}
 use Rattle.optimum.specs.PairLaws.{rising-count, falls-weight}
 use Rattle.optimum.specs.Solution.{ranked, edge-rank, Mated, pairs-from, pairs-has}
-use Rattle.optimum.specs.SolveProof.{matesOf, labelsOf, tree-cost, spare-cost, solve-pairs, solve-valid, solve-slack, whole}
+use Rattle.optimum.specs.SolveProof.{matesOf, labelsOf, tree-cost, spare-cost, solve-pairs, solve-valid, solve-slack, solve-idle}
 
 -- The new cost of an edge.
 abbrev new : Graph → EdgeSet → (ℕ → ℕ) → ℕ → ℕ
 new g tr c e = getD (solve g tr c .costs) e 0
 
-module _ (g : Graph) (live : (e : ℕ) → e < g .edges → g .live e ≡ true) (tr : EdgeSet) (c : ℕ → ℕ) where
+module _ (g : Graph) (tr : EdgeSet) (c : ℕ → ℕ) where
   old-edge : (v : ℕ) → Old (problem g tr c) v → (x : ℕ) × (x < g .edges) × (v ≡ c x)
   old-edge v (inl (t, h, q)) = (getD (treeRanks g tr c) t 0, tree-lists g tr c .below t h, q)
   old-edge v (inr (s, h, q)) = (getD (spareRanks g tr c) s 0, spare-lists g tr c .below s h, q)
@@ -36,9 +36,10 @@ module _ (g : Graph) (live : (e : ℕ) → e < g .edges → g .live e ≡ true) 
   pub new-old : (e : ℕ) → e < g .edges → (x : ℕ) × (x < g .edges) × (getD (solve g tr c .costs) e 0 ≡ c x)
   new-old e h =
       let old = labels-old (problem g tr c) (ranked g tr c) (matesOf g tr c) (solve-valid g tr c) in
-      elim (edge-rank g tr c (whole g tr c live) e h) [
+      elim (edge-rank g tr c e h) [
         | inl (t, l, q) ↦ rw (← q, tree-cost g tr c t l) (old-edge (labelsOf g tr c .treeLabel t) (old .0 t l))
-        | inr (s, l, q) ↦ rw (← q, spare-cost g tr c s l) (old-edge (labelsOf g tr c .spareLabel s) (old .1 s l))
+        | inr (inl (s, l, q)) ↦ rw (← q, spare-cost g tr c s l) (old-edge (labelsOf g tr c .spareLabel s) (old .1 s l))
+        | inr (inr i) ↦ (e, h, solve-idle g tr c e h i)
       ]
 
   pub new-most : (b : ℕ) → ((x : ℕ) → x < g .edges → c x ≤ b) → (e : ℕ) → e < g .edges → getD (solve g tr c .costs) e 0 ≤ b
@@ -58,8 +59,12 @@ module _ (g : Graph) (live : (e : ℕ) → e < g .edges → g .live e ≡ true) 
 
   pub spare-new-least : (e : ℕ) → e < g .edges → tr e ≡ false → c e ≤ getD (solve g tr c .costs) e 0
   spare-new-least e h o =
-      let (s, l, q) = spare-lists g tr c .every e h (and-both (g .live e) (not (tr e)) (live e h) (ap not o)) in
-      rw (← q, spare-cost g tr c s l) (le-pos (solve-slack g tr c .above s l))
+      elim (truth (g .live e)) [
+        | inl v ↦
+            let (s, l, q) = spare-lists g tr c .every e h (and-both (g .live e) (not (tr e)) v (ap not o)) in
+            rw (← q, spare-cost g tr c s l) (le-pos (solve-slack g tr c .above s l))
+        | inr v ↦ omega (arith, solve-idle g tr c e h (and-both (not (g .live e)) (not (tr e)) (ap not v) (ap not o)))
+      ]
 
   -- Paired edges get equal costs.
   pub paired-equal :
@@ -82,9 +87,10 @@ module _ (g : Graph) (live : (e : ℕ) → e < g .edges → g .live e ≡ true) 
       (e : ℕ) → e < g .edges → ((q : Pair) → List·Memᴰ q (solve g tr c .pairs) → (e ≢ q .tree) × (e ≢ q .spare))
       → getD (solve g tr c .costs) e 0 ≡ c e
   unpaired-same e h none =
-      elim (edge-rank g tr c (whole g tr c live) e h) [
+      elim (edge-rank g tr c e h) [
         | inl (t, l, q) ↦ rw (← q, tree-cost g tr c t l) (tree-free t l (λ s b m. unpaired s t b m .0 (sym q)))
-        | inr (s, l, q) ↦ rw (← q, spare-cost g tr c s l) (spare-free s l (λ t m. unpaired s t l m .1 (sym q)))
+        | inr (inl (s, l, q)) ↦ rw (← q, spare-cost g tr c s l) (spare-free s l (λ t m. unpaired s t l m .1 (sym q)))
+        | inr (inr i) ↦ solve-idle g tr c e h i
       ]
     where
       unpaired :

@@ -29,7 +29,9 @@ module _ {g : Graph} (sound : Sound g) {tr : EdgeSet} (tree : SpanningTree g tr)
       (t s : ℕ) → t < length (treeRanks g tr c) → s < length (spareRanks g tr c)
       → (coversRank g (rooted g (treeRanks g tr c)) (getD (spareRanks g tr c) s 0) t ≡ true)
       ↔ Covers g tr (getD (spareRanks g tr c) s 0) (getD (treeRanks g tr c) t 0)
-  means t s h l = covers-means sound (tree-lists g tr c) tree (getD (spareRanks g tr c) s 0) t (spare-lists g tr c .below s l) h
+  means t s h l =
+      covers-means sound (tree-lists g tr c) tree (getD (spareRanks g tr c) s 0) t (spare-lists g tr c .below s l)
+      (and-first _ _ (spare-lists g tr c .inside s l)) h
 
   -- What covers by rank, covers.
   pub rank-covers :
@@ -42,7 +44,7 @@ module _ {g : Graph} (sound : Sound g) {tr : EdgeSet} (tree : SpanningTree g tr)
       let spare : spareOf g tr (getD (spareRanks g tr c) s 0) ≡ true = spare-lists g tr c .inside s l in
       criterion g sound tr tree d .0 m (getD (spareRanks g tr c) s 0) (getD (treeRanks g tr c) t 0)
       (spare-lists g tr c .below s l)
-      (and-first _ _ spare) (not-true _ (and-second (g .live (getD (spareRanks g tr c) s 0)) _ spare))
+      (not-true _ (and-second (g .live (getD (spareRanks g tr c) s 0)) _ spare))
       (rank-covers t s h l q)
 
   -- Costs that raise no tree edge and lower no non-tree edge: a non-tree edge that cost no less than a tree edge that it
@@ -60,10 +62,10 @@ module _ {g : Graph} (sound : Sound g) {tr : EdgeSet} (tree : SpanningTree g tr)
     ]
 
     test : Test g tr d
-    test s t b live out v =
+    test s t b out v =
         let (l, i) = walk-member (v .walk) (v .holds) in
         let (j, h, p) = tree-lists g tr c .every t l i in
-        let (k, m, q) = spare-lists g tr c .every s b (and-both (g .live s) (not (tr s)) live (ap not out)) in
+        let (k, m, q) = spare-lists g tr c .every s b (and-both (g .live s) (not (tr s)) (v .usable) (ap not out)) in
         rw (p, q) at (ordered j k h m (rw (p, q) v))
 
     pub feasible-minimum : Minimum g tr d

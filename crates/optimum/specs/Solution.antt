@@ -12,7 +12,7 @@ use lib.ListN.{length, getD}
 use borrow.Author.Tests.{not-true}
 use Rattle.loops.specs.Loop.{put, gather}
 use Rattle.loops.specs.Below.{sum}
-use Rattle.loops.specs.TestLaws.{clash, and-second}
+use Rattle.loops.specs.TestLaws.{clash, and-first, and-second}
 use Rattle.loops.specs.PutLaws.{put-same, put-other}
 use Rattle.loops.specs.ScanLaws.{scan-leaves, scan-writes, scan-keeps}
 use Rattle.loops.specs.SumLaws.{sum-same, sum-zero, sum-plus, sumOver}
@@ -26,18 +26,27 @@ use Rattle.optimum.specs.Search.{Mates}
 use Rattle.optimum.specs.Lowest.{Labels}
 use Rattle.optimum.specs.Slackness.{Ranked, Valid, RankCosts, Unmatched, rankDeviation, pairWeight, rankWeight}
 use Rattle.optimum.specs.Solve.{problem, place, newCosts, join, partners, pairAt}
+use Rattle.optimum.specs.Distance.{distance-is}
 use Rattle.optimum.specs.Matched.{matched-view}
 use Rattle.optimum.specs.LowestProof.{labelCosts}
 use Rattle.optimum.specs.PairLaws.{ordered-rising, rising-apart, falls-weight}
 use Rattle.optimum.specs.Reindex.{atMate, unmatchedOnly, unmatched-stays, matched-leaves, sum-reindex}
 
--- An edge is of one kind, and counts as such.
-one-kind : (live tree : Bool) (x : ℕ) → (tree ≡ true) ⊎ ((live && not tree) ≡ true) → x ≡ cond tree x 0 + cond (live && not tree) x 0
-one-kind true true x k = omega arith
-one-kind true false x k = omega arith
-one-kind false true x k = omega arith
-one-kind false false x (inl q) = absurd (true≢false (sym q))
-one-kind false false x (inr q) = absurd (true≢false (sym q))
+-- An edge is of one kind of three, and counts as such.
+kind : (live tree : Bool) → (tree ≡ true) ⊎ ((live && not tree) ≡ true) ⊎ ((not live && not tree) ≡ true)
+kind live true = inl refl
+kind true false = inr (inl refl)
+kind false false = inr (inr refl)
+
+one-kind : (live tree : Bool) (x : ℕ) → x ≡ cond tree x 0 + cond (live && not tree) x 0 + cond (not live && not tree) x 0
+one-kind true true x = omega arith
+one-kind true false x = omega arith
+one-kind false true x = omega arith
+one-kind false false x = omega arith
+
+-- Idle edges, which have no rank: they may not be used and are not in the tree.
+abbrev pub idleOf : Graph → EdgeSet → EdgeSet
+idleOf g tr e = not (g .live e) && not (tr e)
 
 -- The costs by rank of costs by edge.
 abbrev pub byRank : Graph → EdgeSet → (ℕ → ℕ) → Costs → RankCosts
@@ -81,58 +90,87 @@ module _ (g : Graph) (tr : EdgeSet) (c : ℕ → ℕ) where
   -- The new cost of the edge of a rank is the rank's label.
   pub tree-new :
       (l : Labels) (t : ℕ) → t < length (treeRanks g tr c)
-      → newCosts (treeRanks g tr c) (spareRanks g tr c) l (getD (treeRanks g tr c) t 0) ≡ l .treeLabel t
+      → newCosts c (treeRanks g tr c) (spareRanks g tr c) l (getD (treeRanks g tr c) t 0) ≡ l .treeLabel t
   tree-new l t h =
-      place-other ss (l .spareLabel) (place ts (l .treeLabel) (λ _. 0)) (getD ts t 0)
+      place-other ss (l .spareLabel) _ (getD ts t 0)
       (λ s k q. ranks-apart t s h k (sym q))
-      ∙ place-at ts (l .treeLabel) (λ _. 0) t h (tree-lists g tr c .once)
+      ∙ place-at ts (l .treeLabel) _ t h (tree-lists g tr c .once)
 
   pub spare-new :
       (l : Labels) (s : ℕ) → s < length (spareRanks g tr c)
-      → newCosts (treeRanks g tr c) (spareRanks g tr c) l (getD (spareRanks g tr c) s 0) ≡ l .spareLabel s
+      → newCosts c (treeRanks g tr c) (spareRanks g tr c) l (getD (spareRanks g tr c) s 0) ≡ l .spareLabel s
   spare-new l s h =
-      place-at ss (l .spareLabel) (place ts (l .treeLabel) (λ _. 0)) s h (spare-lists g tr c .once)
+      place-at ss (l .spareLabel) _ s h (spare-lists g tr c .once)
 
-  -- In a job every edge is a tree edge or a non-tree edge.
-  module _ (whole : (e : ℕ) → e < g .edges → (tr e ≡ true) ⊎ (spareOf g tr e ≡ true)) where
-    pub edge-rank :
-        (e : ℕ) → e < g .edges
-        → ((t : ℕ) × (t < length (treeRanks g tr c)) × (getD (treeRanks g tr c) t 0 ≡ e))
-        ⊎ ((s : ℕ) × (s < length (spareRanks g tr c)) × (getD (spareRanks g tr c) s 0 ≡ e))
-    edge-rank e h = elim (whole e h) [
-      | inl q ↦ inl (tree-lists g tr c .every e h q)
-      | inr q ↦ inr (spare-lists g tr c .every e h q)
-    ]
+  -- An idle edge has no rank and keeps its cost.
+  pub idle-new :
+      (l : Labels) (e : ℕ) → idleOf g tr e ≡ true → newCosts c (treeRanks g tr c) (spareRanks g tr c) l e ≡ c e
+  idle-new l e q =
+      place-other ss (l .spareLabel) _ e (λ s h k.
+      clash (and-first (g .live e) (not (tr e)) (rw k at (spare-lists g tr c .inside s h)))
+      (not-true (g .live e) (and-first (not (g .live e)) (not (tr e)) q)))
+      ∙ place-other ts (l .treeLabel) _ e (λ t h k.
+      clash (rw k at (tree-lists g tr c .inside t h)) (not-true (tr e) (and-second (not (g .live e)) (not (tr e)) q)))
 
-    pub edge-sum :
-        (f : ℕ → ℕ)
-        → sum (g .edges) f
-        ≡ sum (length (treeRanks g tr c)) (λ t. f (getD (treeRanks g tr c) t 0))
-        + sum (length (spareRanks g tr c)) (λ s. f (getD (spareRanks g tr c) s 0))
-    edge-sum f =
-        omega (
-          arith,
-          sum-same (g .edges) f (λ e. cond (tr e) (f e) 0 + cond (spareOf g tr e) (f e) 0)
-              (λ e h. one-kind (g .live e) (tr e) (f e) (whole e h)),
-          sum-plus (g .edges) (λ e. cond (tr e) (f e) 0) (λ e. cond (spareOf g tr e) (f e) 0),
-          ranks-sum (byFalling c) (g .edges) tr f,
-          ranks-sum (byRising c) (g .edges) (spareOf g tr) f,
-        )
+  -- Every edge is a tree edge, a non-tree edge or idle.
+  pub edge-rank :
+      (e : ℕ) → e < g .edges
+      → ((t : ℕ) × (t < length (treeRanks g tr c)) × (getD (treeRanks g tr c) t 0 ≡ e))
+      ⊎ ((s : ℕ) × (s < length (spareRanks g tr c)) × (getD (spareRanks g tr c) s 0 ≡ e))
+      ⊎ (idleOf g tr e ≡ true)
+  edge-rank e h = elim (kind (g .live e) (tr e)) [
+    | inl q ↦ inl (tree-lists g tr c .every e h q)
+    | inr (inl q) ↦ inr (inl (spare-lists g tr c .every e h q))
+    | inr (inr q) ↦ inr (inr q)
+  ]
 
-    pub rank-deviation : (d : Costs) → deviation g c d ≡ rankDeviation (problem g tr c) (byRank g tr c d)
-    rank-deviation d = edge-sum (λ e. natAbs (d e -ℤ pos (c e)))
+  pub edge-sum :
+      (f : ℕ → ℕ)
+      → sum (g .edges) f
+      ≡ sum (length (treeRanks g tr c)) (λ t. f (getD (treeRanks g tr c) t 0))
+      + sum (length (spareRanks g tr c)) (λ s. f (getD (spareRanks g tr c) s 0))
+      + sum (g .edges) (λ e. cond (idleOf g tr e) (f e) 0)
+  edge-sum f =
+      omega (
+        arith,
+        sum-same (g .edges) f (λ e. cond (tr e) (f e) 0 + cond (spareOf g tr e) (f e) 0 + cond (idleOf g tr e) (f e) 0)
+            (λ e h. one-kind (g .live e) (tr e) (f e)),
+        sum-plus (g .edges) (λ e. cond (tr e) (f e) 0 + cond (spareOf g tr e) (f e) 0) (λ e. cond (idleOf g tr e) (f e) 0),
+        sum-plus (g .edges) (λ e. cond (tr e) (f e) 0) (λ e. cond (spareOf g tr e) (f e) 0),
+        ranks-sum (byFalling c) (g .edges) tr f,
+        ranks-sum (byRising c) (g .edges) (spareOf g tr) f,
+      )
 
-    pub label-deviation :
-        (l : Labels)
-        → deviation g c (λ e. pos (newCosts (treeRanks g tr c) (spareRanks g tr c) l e))
-        ≡ rankDeviation (problem g tr c) (labelCosts l)
-    label-deviation l =
-        rank-deviation (λ e. pos (newCosts ts ss l e))
-        ∙ ap₂ {C = ℕ} _+_
-        (sum-same (length ts) (λ t. natAbs (pos (newCosts ts ss l (getD ts t 0)) -ℤ pos (c (getD ts t 0))))
-        (λ t. natAbs (pos (l .treeLabel t) -ℤ pos (c (getD ts t 0)))) (λ t h. rw (tree-new l t h)))
-        (sum-same (length ss) (λ s. natAbs (pos (newCosts ts ss l (getD ss s 0)) -ℤ pos (c (getD ss s 0))))
-        (λ s. natAbs (pos (l .spareLabel s) -ℤ pos (c (getD ss s 0)))) (λ s h. rw (spare-new l s h)))
+  -- How far costs move idle edges; the others deviate as their ranks do.
+  abbrev pub idleDeviation : Costs → ℕ
+  idleDeviation d = sum (g .edges) (λ e. cond (idleOf g tr e) (natAbs (d e -ℤ pos (c e))) 0)
+
+  pub rank-deviation : (d : Costs) → deviation g c d ≡ rankDeviation (problem g tr c) (byRank g tr c d) + idleDeviation d
+  rank-deviation d = edge-sum (λ e. natAbs (d e -ℤ pos (c e)))
+
+  abbrev newAt : Labels → ℕ → ℕ
+  newAt l = newCosts c ts ss l
+
+  -- The new costs do not move them.
+  new-still : (l : Labels) → idleDeviation (λ e. pos (newAt l e)) ≡ 0
+  new-still l = sum-zero (g .edges) _ (λ e h. still e (idleOf g tr e) refl)
+    where
+      still : (e : ℕ) (b : Bool) → idleOf g tr e ≡ b → cond b (natAbs (pos (newAt l e) -ℤ pos (c e))) 0 ≡ 0
+      still e true q = rw (idle-new l e q) (omega (arith, distance-is (pos (c e)) (c e)))
+      still e false q = refl
+
+  pub label-deviation :
+      (l : Labels)
+      → deviation g c (λ e. pos (newCosts c (treeRanks g tr c) (spareRanks g tr c) l e))
+      ≡ rankDeviation (problem g tr c) (labelCosts l)
+  label-deviation l =
+      let ranks =
+      ap₂ {C = ℕ} _+_
+      (sum-same (length ts) (λ t. natAbs (pos (newAt l (getD ts t 0)) -ℤ pos (c (getD ts t 0))))
+      (λ t. natAbs (pos (l .treeLabel t) -ℤ pos (c (getD ts t 0)))) (λ t h. rw (tree-new l t h)))
+      (sum-same (length ss) (λ s. natAbs (pos (newAt l (getD ss s 0)) -ℤ pos (c (getD ss s 0))))
+      (λ s. natAbs (pos (l .spareLabel s) -ℤ pos (c (getD ss s 0)))) (λ s h. rw (spare-new l s h))) in
+      omega (arith, rank-deviation (λ e. pos (newAt l e)), ranks, new-still l)
 
 -- Edge e is a tree edge and matched to the non-tree edge x: they have ranks that are mates.
 pub record Mated (ts ss : List ℕ) (mates : Mates) (e x : ℕ) : Type 0 where

@@ -28,12 +28,12 @@ problem g tr c =
       spareCost = λ s. c (getD ss s 0);
     }
 
--- The labels by edge: each rank's label put at its edge.
+-- The labels by edge: each rank's label put at its edge, over the old costs. So an edge without a rank keeps its cost.
 abbrev pub place : List ℕ → (ℕ → ℕ) → (ℕ → ℕ) → ℕ → ℕ
 place ranks label f = scan (λ k f. put f (getD ranks k 0) (label k)) (length ranks) 0 f
 
-abbrev pub newCosts : List ℕ → List ℕ → Labels → ℕ → ℕ
-newCosts ts ss l = place ss (l .spareLabel) (place ts (l .treeLabel) (λ _. 0))
+abbrev pub newCosts : (ℕ → ℕ) → List ℕ → List ℕ → Labels → ℕ → ℕ
+newCosts c ts ss l = place ss (l .spareLabel) (place ts (l .treeLabel) c)
 
 -- The mate of each tree edge: suc e for the non-tree edge e, 0 for none.
 unfoldable pub join : List ℕ → ℕ → ℕ → (ℕ → ℕ) → ℕ → ℕ
@@ -53,7 +53,7 @@ solve g tr c =
     let ss : List ℕ = spareRanks g tr c in
     let p : Problem = problem g tr c in
     let mates : Mates = matching p in
-    let new : (ℕ → ℕ) = newCosts ts ss (labels p mates) in
+    let new : (ℕ → ℕ) = newCosts c ts ss (labels p mates) in
     let mate : (ℕ → ℕ) = partners ts ss mates in
     record {
       steps = built p (p .trees) .weight;

@@ -5,21 +5,22 @@
 use Prim.Native.Nat.{ℕ, _≤_, _<_}
 use native.Mathlib.Omega.{arith}
 use mathlib.Core.Path.{_≡_, refl, ap, sym, _∙_}
-use mathlib.Core.Logic.{_⊎_, inl, inr}
-use mathlib.Core.Bool.{true, not}
+use mathlib.Core.Logic.{inl, inr}
+use mathlib.Core.Bool.{true, false, not}
 use lib.IntN.{pos, natAbs, _-ℤ_}
-use lib.Signed.{_≤ℤ_}
+use lib.Signed.{_≤ℤ_, ≤ℤ-refl}
 use lib.ListN.{length, getD}
-use Rattle.loops.specs.TestLaws.{truth, and-both}
+use borrow.Author.Tests.{not-true}
+use Rattle.loops.specs.TestLaws.{and-first}
 use Rattle.loops.specs.SumLaws.{sum-same}
 use Rattle.loops.specs.GatherLaws.{length-tabulate, getD-tabulate}
-use Rattle.graph.specs.Graph.{Graph, Sound, EdgeSet, SpanningTree, Minimum, spareOf}
+use Rattle.graph.specs.Graph.{Graph, Sound, EdgeSet, SpanningTree, Minimum}
 use Rattle.graph.specs.Rank.{treeRanks, spareRanks}
 use Rattle.graph.specs.RankLaws.{tree-lists, spare-lists}
 use Rattle.optimum.specs.Optimum.{Costs, deviation, IsPair, Matching, weight, Rising, Falls, chosen}
 use Rattle.optimum.specs.Search.{Mates, built, matching}
 use Rattle.optimum.specs.Lowest.{Labels, labels}
-use Rattle.optimum.specs.Slackness.{Valid, Slack, rankWeight}
+use Rattle.optimum.specs.Slackness.{Valid, Slack, rankDeviation, rankWeight}
 use Rattle.optimum.specs.Solve.{problem, newCosts, solve}
 use Rattle.optimum.specs.Duality.{weak, slack-equal, equal-slack}
 use Rattle.optimum.specs.MatchingProof.{weight-kept, built-valid, matching-slack}
@@ -29,6 +30,8 @@ use Rattle.optimum.specs.Solution.{
   ranked,
   tree-new,
   spare-new,
+  idleOf,
+  idle-new,
   edge-rank,
   rank-deviation,
   label-deviation,
@@ -40,6 +43,7 @@ use Rattle.optimum.specs.Solution.{
   pairs-apart,
   pairs-weight,
 }
+use Rattle.optimum.specs.PairBound.{idle-still}
 use Rattle.optimum.specs.RankCriterion.{rank-covers, minimum-feasible, feasible-minimum}
 
 -- The matching and the labels of the answer.
@@ -51,7 +55,7 @@ labelsOf g tr c = labels (problem g tr c) (matesOf g tr c)
 
 module _ (g : Graph) (tr : EdgeSet) (c : ℕ → ℕ) where
   abbrev new : ℕ → ℕ
-  new = newCosts (treeRanks g tr c) (spareRanks g tr c) (labelsOf g tr c)
+  new = newCosts c (treeRanks g tr c) (spareRanks g tr c) (labelsOf g tr c)
 
   pub solve-count : length (solve g tr c .costs) ≡ g .edges
   unfolding solve
@@ -148,36 +152,43 @@ module _ (g : Graph) (tr : EdgeSet) (c : ℕ → ℕ) where
           apart = pairs-apart g tr c (matesOf g tr c) solve-valid;
         }
 
-  -- All edges are usable.
-  module _ (live : (e : ℕ) → e < g .edges → g .live e ≡ true) where
-    -- Every edge is a tree edge or a non-tree edge.
-    pub whole : (e : ℕ) → e < g .edges → (tr e ≡ true) ⊎ (spareOf g tr e ≡ true)
-    whole e h = elim (truth (tr e)) [ inl q ↦ inl q | inr q ↦ inr (and-both (g .live e) (not (tr e)) (live e h) (ap not q)) ]
+  -- The step count is the sum of their changes.
+  pub solve-steps : solve g tr c .steps ≡ deviation g c (chosen (solve g tr c))
+  solve-steps =
+      steps-weight
+      ∙ sym (slack-equal (problem g tr c) (matesOf g tr c) (labelCosts (labelsOf g tr c)) solve-valid solve-slack)
+      ∙ sym (label-deviation g tr c (labelsOf g tr c))
+      ∙ sum-same (g .edges) (λ e. natAbs (pos (new e) -ℤ pos (c e)))
+      (λ e. natAbs (chosen (solve g tr c) e -ℤ pos (c e))) (λ e h. rw (new-cost e h))
 
-    -- The step count is the sum of their changes.
-    pub solve-steps : solve g tr c .steps ≡ deviation g c (chosen (solve g tr c))
-    solve-steps =
-        steps-weight
-        ∙ sym (slack-equal (problem g tr c) (matesOf g tr c) (labelCosts (labelsOf g tr c)) solve-valid solve-slack)
-        ∙ sym (label-deviation g tr c whole (labelsOf g tr c))
-        ∙ sum-same (g .edges) (λ e. natAbs (pos (new e) -ℤ pos (c e)))
-        (λ e. natAbs (chosen (solve g tr c) e -ℤ pos (c e))) (λ e h. rw (new-cost e h))
+  -- Idle edges keep their cost.
+  pub solve-idle : (e : ℕ) → e < g .edges → idleOf g tr e ≡ true → getD (solve g tr c .costs) e 0 ≡ c e
+  solve-idle e h q = new-cost e h ∙ idle-new g tr c (labelsOf g tr c) e q
 
-    module _ (sound : Sound g) (tree : SpanningTree g tr) where
-      pub solve-fewest : (d : Costs) → Minimum g tr d → solve g tr c .steps ≤ deviation g c d
-      solve-fewest d m =
-          rw (steps-weight, rank-deviation g tr c whole d)
-          (weak (problem g tr c) (matesOf g tr c) (byRank g tr c d) solve-valid (minimum-feasible sound tree c d m))
+  idle-out : {e : ℕ} → idleOf g tr e ≡ true → g .live e ≡ false
+  idle-out {e} q = not-true (g .live e) (and-first (not (g .live e)) (not (tr e)) q)
 
-      pub solve-lowest :
-          (d : Costs) → Minimum g tr d → deviation g c d ≡ solve g tr c .steps → (e : ℕ) → e < g .edges
-          → chosen (solve g tr c) e ≤ℤ d e
-      solve-lowest d m q e h =
-          let slack : Slack (problem g tr c) (matesOf g tr c) (byRank g tr c d) =
-          equal-slack (problem g tr c) (matesOf g tr c) (byRank g tr c d) solve-valid (minimum-feasible sound tree c d m)
-          (sym (rank-deviation g tr c whole d) ∙ q ∙ steps-weight) in
-          let least = labels-lowest (problem g tr c) (ranked g tr c) (matesOf g tr c) solve-valid (byRank g tr c d) slack in
-          elim (edge-rank g tr c whole e h) [
-            | inl t ↦ rw (sym (t .2), tree-cost (t .0) (t .1)) (least .0 (t .0) (t .1))
-            | inr s ↦ rw (sym (s .2), spare-cost (s .0) (s .1)) (least .1 (s .0) (s .1))
-          ]
+  module _ (sound : Sound g) (tree : SpanningTree g tr) where
+    least : (d : Costs) → Minimum g tr d → solve g tr c .steps ≤ rankDeviation (problem g tr c) (byRank g tr c d)
+    least d m =
+        rw steps-weight
+        (weak (problem g tr c) (matesOf g tr c) (byRank g tr c d) solve-valid (minimum-feasible sound tree c d m))
+
+    pub solve-fewest : (d : Costs) → Minimum g tr d → solve g tr c .steps ≤ deviation g c d
+    solve-fewest d m = omega (arith, least d m, rank-deviation g tr c d)
+
+    pub solve-lowest :
+        (d : Costs) → Minimum g tr d → deviation g c d ≡ solve g tr c .steps → (e : ℕ) → e < g .edges
+        → chosen (solve g tr c) e ≤ℤ d e
+    solve-lowest d m q e h =
+        let slack : Slack (problem g tr c) (matesOf g tr c) (byRank g tr c d) =
+        equal-slack (problem g tr c) (matesOf g tr c) (byRank g tr c d) solve-valid (minimum-feasible sound tree c d m)
+        (omega (arith, rank-deviation g tr c d, least d m, steps-weight)) in
+        let lowest = labels-lowest (problem g tr c) (ranked g tr c) (matesOf g tr c) solve-valid (byRank g tr c d) slack in
+        let weighs : weight c (solve g tr c .pairs) ≡ pos (deviation g c d) = solve-weighs ∙ ap pos (sym q) in
+        let still = idle-still sound tree c d m (solve g tr c .pairs) (solve-matching sound tree) solve-falls weighs in
+        elim (edge-rank g tr c e h) [
+          | inl t ↦ rw (sym (t .2), tree-cost (t .0) (t .1)) (lowest .0 (t .0) (t .1))
+          | inr (inl s) ↦ rw (sym (s .2), spare-cost (s .0) (s .1)) (lowest .1 (s .0) (s .1))
+          | inr (inr i) ↦ rw (solve-idle e h i, still e h (idle-out i)) (≤ℤ-refl (pos (c e)))
+        ]

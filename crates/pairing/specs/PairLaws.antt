@@ -3,7 +3,7 @@ use Prim.Native.Nat.{ℕ, _+_, _≤_, _<_}
 use native.Mathlib.Decide.{ℕ-discrete}
 use native.Mathlib.Omega.{arith}
 use mathlib.Core.Path.{_≡_, sym, ap, _∙_}
-use mathlib.Core.Bool.{Bool, true, false, not, _&&_}
+use mathlib.Core.Bool.{Bool, true, false, _&&_}
 use mathlib.Core.List.{List}
 use lib.Dec.{ltb, eqb}
 use lib.ListN.{length, getD, take}
@@ -11,7 +11,7 @@ use lib.Seq.{length-take-le, getD-take}
 use borrow.Author.Tests.{lt-ltb, le-ltb, eq-eqb, ne-eqb, ltb-true}
 use Rattle.loops.specs.FirstLaws.{first-found}
 use Rattle.loops.specs.TestLaws.{and-first, and-second, all-at}
-use Rattle.paths.specs.Arrays.{arrayTree, across}
+use Rattle.paths.specs.Arrays.{arrayTree, arraySpare, across}
 use Rattle.frame.specs.Arrays.{Arrays}
 use Rattle.frame.specs.Answers.{rankOf, pairFrom}
 use Rattle.weighing.specs.Weighing.{Falling}
@@ -55,34 +55,33 @@ module _ (edges p : ℕ) (a : Arrays) (t s : ℕ) where
   unfolding pairHeld
   tree-past l = rw (le-ltb t edges l)
 
-  pub tree-unmarked : t < edges → (getD (a .links .mark) t 0 ≡ 1 → ⊥) → pairHeld edges p a t s ≡ false
-  unfolding pairHeld
-  tree-unmarked l d = rw (lt-ltb t edges l, ne-eqb (getD (a .links .mark) t 0) 1 d)
-
-  module _ (below : t < edges) (marked : getD (a .links .mark) t 0 ≡ 1) where
-    in-tree : arrayTree (a .links .mark) t ≡ true
-    in-tree = eq-eqb (getD (a .links .mark) t 0) 1 marked
-
-    pub spare-past : edges ≤ s → pairHeld edges p a t s ≡ false
+  module _ {tree : Bool} (marked : tree ≡ arrayTree (a .links .mark) t) (below : t < edges) where
+    pub tree-unmarked : tree ≡ false → pairHeld edges p a t s ≡ false
     unfolding pairHeld
-    spare-past l = rw (lt-ltb t edges below, in-tree, le-ltb s edges l)
+    tree-unmarked e = rw (lt-ltb t edges below, sym marked ∙ e)
 
-    pub spare-marked : s < edges → getD (a .links .mark) s 0 ≡ 1 → pairHeld edges p a t s ≡ false
-    unfolding pairHeld
-    spare-marked l e = rw (lt-ltb t edges below, in-tree, lt-ltb s edges l, eq-eqb (getD (a .links .mark) s 0) 1 e)
-
-    module _ (within : s < edges) (spare : getD (a .links .mark) s 0 ≡ 1 → ⊥) (k : ℕ) (rank : k ≡ rankOf (take p (a .ranks)) t)
-        (r : Bool) (crosses : r ≡ across (a .mask) (getD (a .links .end₁) s 0) (getD (a .links .end₂) s 0) k) where
-      covering : across (a .mask) (getD (a .links .end₁) s 0) (getD (a .links .end₂) s 0) (rankOf (take p (a .ranks)) t) ≡ r
-      covering = ap (across (a .mask) (getD (a .links .end₁) s 0) (getD (a .links .end₂) s 0)) (sym rank) ∙ sym crosses
-
-      pub spare-apart : r ≡ false → pairHeld edges p a t s ≡ false
+    module _ (in-tree : tree ≡ true) where
+      pub spare-past : edges ≤ s → pairHeld edges p a t s ≡ false
       unfolding pairHeld
-      spare-apart e = rw (lt-ltb t edges below, in-tree, lt-ltb s edges within, ne-eqb (getD (a .links .mark) s 0) 1 spare, covering, e)
+      spare-past l = rw (lt-ltb t edges below, sym marked ∙ in-tree, le-ltb s edges l)
 
-      pub pair-dearer : r ≡ true → ltb (getD (a .links .cost) s 0) (getD (a .links .cost) t 0) ≡ pairHeld edges p a t s
-      unfolding pairHeld
-      pair-dearer e = rw (lt-ltb t edges below, in-tree, lt-ltb s edges within, ne-eqb (getD (a .links .mark) s 0) 1 spare, covering, e)
+      module _ {spare : Bool} (spared : spare ≡ arraySpare (a .links .mark) s) (within : s < edges) where
+        pub spare-other : spare ≡ false → pairHeld edges p a t s ≡ false
+        unfolding pairHeld
+        spare-other e = rw (lt-ltb t edges below, sym marked ∙ in-tree, lt-ltb s edges within, sym spared ∙ e)
+
+        module _ (is : spare ≡ true) (k : ℕ) (rank : k ≡ rankOf (take p (a .ranks)) t)
+            (r : Bool) (crosses : r ≡ across (a .mask) (getD (a .links .end₁) s 0) (getD (a .links .end₂) s 0) k) where
+          covering : across (a .mask) (getD (a .links .end₁) s 0) (getD (a .links .end₂) s 0) (rankOf (take p (a .ranks)) t) ≡ r
+          covering = ap (across (a .mask) (getD (a .links .end₁) s 0) (getD (a .links .end₂) s 0)) (sym rank) ∙ sym crosses
+
+          pub spare-apart : r ≡ false → pairHeld edges p a t s ≡ false
+          unfolding pairHeld
+          spare-apart e = rw (lt-ltb t edges below, sym marked ∙ in-tree, lt-ltb s edges within, sym spared ∙ is, covering, e)
+
+          pub pair-dearer : r ≡ true → ltb (getD (a .links .cost) s 0) (getD (a .links .cost) t 0) ≡ pairHeld edges p a t s
+          unfolding pairHeld
+          pair-dearer e = rw (lt-ltb t edges below, sym marked ∙ in-tree, lt-ltb s edges within, sym spared ∙ is, covering, e)
 
   -- What a pair that holds is.
   module _ (h : pairHeld edges p a t s ≡ true) where
@@ -96,7 +95,7 @@ module _ (edges p : ℕ) (a : Arrays) (t s : ℕ) where
     t₃ = t₂ && ltb s edges
 
     abbrev t₄ : Bool
-    t₄ = t₃ && not (arrayTree (a .links .mark) s)
+    t₄ = t₃ && arraySpare (a .links .mark) s
 
     abbrev t₅ : Bool
     t₅ = t₄ && across (a .mask) (getD (a .links .end₁) s 0) (getD (a .links .end₂) s 0) (rankOf (take p (a .ranks)) t)

@@ -9,7 +9,8 @@ ghost use Rattle.pairing.specs.Pairs.{pairHeld, pairsHeld};
 use ids::Edge;
 use ids::Node;
 use ids::TreeRank;
-use limits::TREE_MARK;
+use limits::is_spare;
+use limits::is_tree;
 
 // The rank of a tree edge; the number of ranks if it has none.
 fn rank_of(ts: &[u32; 256], trees: usize, t: Edge) -> TreeRank
@@ -51,13 +52,13 @@ fn pair_holds(
     if edges <= tree {
         return false;
     }
-    if mark[tree] != TREE_MARK {
+    if !is_tree(mark[tree]) {
         return false;
     }
     if edges <= spare {
         return false;
     }
-    if mark[spare] == TREE_MARK {
+    if !is_spare(mark[spare]) {
         return false;
     }
     let k = rank_of(ts, trees, t);

@@ -4,22 +4,32 @@ use Prim.Native.Nat.{ℕ, _<_}
 use mathlib.Core.Path.{_≡_}
 use mathlib.Core.Bool.{Bool, true, cond, xor}
 use mathlib.Core.List.{List}
-use lib.Dec.{eqb}
 use lib.ListN.{length, getD, take}
+use Rattle.limits.specs.Limits.{marksTree, marksPlugged, marksSpare}
 use Rattle.loops.specs.Loop.{scan}
 use Rattle.bits.specs.Bit.{bit}
 use Rattle.graph.specs.Graph.{Graph, EdgeSet}
 use Rattle.graph.specs.Paths.{Rooted, attach, rooted}
 use Rattle.paths.specs.declared.Front.{Front}
 
--- Links in arrays: link e joins the stations at place e of the arrays of first and second ends.
-abbrev pub arrayGraph : ℕ → ℕ → List ℕ → List ℕ → Graph
-arrayGraph nodes edges as₁ as₂ =
-    record { nodes = nodes; edges = edges; end₁ = λ e. getD as₁ e 0; end₂ = λ e. getD as₂ e 0; live = λ _. true }
+-- Links in arrays: link e joins the stations at place e of the arrays of first and second ends, and its mark says whether it is
+-- plugged.
+abbrev pub arrayGraph : ℕ → ℕ → List ℕ → List ℕ → List ℕ → Graph
+arrayGraph nodes edges as₁ as₂ as₄ =
+    record {
+      nodes = nodes;
+      edges = edges;
+      end₁ = λ e. getD as₁ e 0;
+      end₂ = λ e. getD as₂ e 0;
+      live = λ e. marksPlugged (getD as₄ e 0);
+    }
 
--- The links marked 1.
+-- The links of the marked tree, and the spare links.
 abbrev pub arrayTree : List ℕ → EdgeSet
-arrayTree as₄ e = eqb (getD as₄ e 0) 1
+arrayTree as₄ e = marksTree (getD as₄ e 0)
+
+abbrev pub arraySpare : List ℕ → EdgeSet
+arraySpare as₄ e = marksSpare (getD as₄ e 0)
 
 abbrev pub arrayCost : List ℕ → ℕ → ℕ
 arrayCost as₃ e = getD as₃ e 0
@@ -66,9 +76,9 @@ pub record Named (word : ℕ) (ranks as₁ as₂ : List ℕ) : Type 0 where
   pub first : (k : ℕ) → bit word k ≡ true → getD as₁ (getD ranks k 0) 0 < 64
   pub second : (k : ℕ) → bit word k ≡ true → getD as₂ (getD ranks k 0) 0 < 64
 
--- What the search from node 0 gives: the number of nodes found, and the tree paths. How many links the arrays hold is
--- all one to it.
+-- What the search from node 0 gives: the number of nodes found, and the tree paths. How many links the arrays hold, and how they
+-- are marked, is all one to it.
 pub record Walked (nodes count : ℕ) (ranks as₁ as₂ : List ℕ) (r : ℕ) (mask : List ℕ) : Type 0 where
-  pub found : (edges : ℕ) → r ≡ rooted (arrayGraph nodes edges as₁ as₂) (take count ranks) .found
-  pub paths : (edges : ℕ) → paths mask ≡ rooted (arrayGraph nodes edges as₁ as₂) (take count ranks) .path
+  pub found : (edges : ℕ) (as₄ : List ℕ) → r ≡ rooted (arrayGraph nodes edges as₁ as₂ as₄) (take count ranks) .found
+  pub paths : (edges : ℕ) (as₄ : List ℕ) → paths mask ≡ rooted (arrayGraph nodes edges as₁ as₂ as₄) (take count ranks) .path
   pub places : length mask ≡ 64

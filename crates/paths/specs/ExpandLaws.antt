@@ -127,23 +127,23 @@ module _ (word : ℕ) (ranks as₁ as₂ : List ℕ) (st₀ : Rooted) where
 
 module _ (count : ℕ) (ranks as₁ as₂ adj : List ℕ) (few : count ≤ 64) (within : count ≤ length ranks) (h : Adjacency count ranks as₁ as₂ adj) where
   grow-tried :
-      (nodes edges k : ℕ) (st : Rooted) → k < count
-      → grow (arrayGraph nodes edges as₁ as₂) (take count ranks) k st ≡ triedRank ranks as₁ as₂ k st
+      (nodes edges k : ℕ) (as₄ : List ℕ) (st : Rooted) → k < count
+      → grow (arrayGraph nodes edges as₁ as₂ as₄) (take count ranks) k st ≡ triedRank ranks as₁ as₂ k st
   unfolding grow
-  grow-tried nodes edges k st l = rw (getD-take count ranks k 0 l)
+  grow-tried nodes edges k as₄ st l = rw (getD-take count ranks k 0 l)
 
   -- The tree edges of a node's word are those that the model tries when it expands the node.
   pub word-expands :
-      (nodes edges v : ℕ) (st : Rooted)
-      → triedWord (getD adj v 0) ranks as₁ as₂ st ≡ expand (arrayGraph nodes edges as₁ as₂) (take count ranks) v st
-  word-expands nodes edges v st =
+      (nodes edges v : ℕ) (as₄ : List ℕ) (st : Rooted)
+      → triedWord (getD adj v 0) ranks as₁ as₂ st ≡ expand (arrayGraph nodes edges as₁ as₂ as₄) (take count ranks) v st
+  word-expands nodes edges v as₄ st =
       let whole : count + (64 - count) ≡ 64 = omega arith in
       ap (λ n. scan (only (bit (getD adj v 0)) (triedRank ranks as₁ as₂)) n 0 st) (sym whole)
       ∙ only-shorter (triedRank ranks as₁ as₂) (bit (getD adj v 0)) count (64 - count) 0 st
       (λ k l. rw (h .own v k, le-ltb k count (omega arith)))
-      ∙ scan-same _ (tryAt (arrayGraph nodes edges as₁ as₂) (take count ranks) v) count 0 st
-      (λ k s b l. rw (h .own v k, lt-ltb k count (omega arith), grow-tried nodes edges k s (omega arith), getD-take count ranks k 0 (omega arith)))
-      ∙ ap (λ n. scan (tryAt (arrayGraph nodes edges as₁ as₂) (take count ranks) v) n 0 st) (sym (length-take-le count ranks within))
+      ∙ scan-same _ (tryAt (arrayGraph nodes edges as₁ as₂ as₄) (take count ranks) v) count 0 st
+      (λ k s b l. rw (h .own v k, lt-ltb k count (omega arith), grow-tried nodes edges k as₄ s (omega arith), getD-take count ranks k 0 (omega arith)))
+      ∙ ap (λ n. scan (tryAt (arrayGraph nodes edges as₁ as₂ as₄) (take count ranks) v) n 0 st) (sym (length-take-le count ranks within))
 
   -- They name edges between nodes, and so do some of them.
   pub word-named :

@@ -1,12 +1,12 @@
 -- Laws of the search from node 0, in the shape of the code: the start, one round, the end; what it comes to does not depend on
--- how many links the arrays hold; and the ranks on the paths are below the number of ranks. Assumes nothing.
+-- how many links the arrays hold and how they are marked; and the ranks on the paths are below the number of ranks. Assumes nothing.
 use Prim.Native.Nat.{ℕ, zero, suc, _+_, _-_, _*_, _^_, _≤_, _<_}
 use native.Mathlib.Decide.{ℕ-discrete}
 use native.Mathlib.Omega.{arith}
 use mathlib.Core.Path.{_≡_, refl, sym, ap, subst, _∙_, fun-ext}
 use mathlib.Core.Logic.{inl, inr}
 use mathlib.Core.Bool.{Bool, true, false, not, cond, xor, _&&_, _||_}
-use mathlib.Core.List.{List}
+use mathlib.Core.List.{List, []}
 use lib.Dec.{ltb, eqb}
 use lib.ListN.{length, getD, take, replicate}
 use lib.Seq.{length-take-le, getD-take}
@@ -75,16 +75,20 @@ module _ (g : Graph) (ranks : List ℕ) where
       let left : suc rounds - 1 ≡ rounds = omega arith in
       rw (first-found f, lt-ltb v (g .nodes) l, left)
 
--- How many links the arrays hold is all one.
+-- The links of the arrays, as many as there is room for, all of them plugged.
+abbrev roomGraph : ℕ → List ℕ → List ℕ → Graph
+roomGraph nodes as₁ as₂ = arrayGraph nodes 256 as₁ as₂ []
+
+-- How many they are, and how they are marked, is all one.
 all-alike :
-    (nodes m n : ℕ) (as₁ as₂ ranks : List ℕ) (rounds : ℕ) (done : ℕ → Bool) (st : Rooted)
-    → expandAll (arrayGraph nodes m as₁ as₂) ranks rounds done st ≡ expandAll (arrayGraph nodes n as₁ as₂) ranks rounds done st
+    (nodes edges : ℕ) (as₁ as₂ as₄ ranks : List ℕ) (rounds : ℕ) (done : ℕ → Bool) (st : Rooted)
+    → expandAll (roomGraph nodes as₁ as₂) ranks rounds done st ≡ expandAll (arrayGraph nodes edges as₁ as₂ as₄) ranks rounds done st
 unfolding expandAll grow
-all-alike nodes m n as₁ as₂ ranks zero done st = refl
-all-alike nodes m n as₁ as₂ ranks (suc rounds) done st =
+all-alike nodes edges as₁ as₂ as₄ ranks zero done st = refl
+all-alike nodes edges as₁ as₂ as₄ ranks (suc rounds) done st =
     let v : ℕ = first nodes (waits done st) in
     ap (λ x. choose (ltb v nodes) (λ _. x) (λ _. st))
-    (all-alike nodes m n as₁ as₂ ranks rounds (put done v true) (expand (arrayGraph nodes m as₁ as₂) ranks v st))
+    (all-alike nodes edges as₁ as₂ as₄ ranks rounds (put done v true) (expand (roomGraph nodes as₁ as₂) ranks v st))
 
 -- ---- the rounds of the code
 
@@ -106,8 +110,8 @@ module _ (nodes count : ℕ) (ranks as₁ as₂ : List ℕ) where
     pub inside : 0 < nodes → (v : ℕ) → bit (front .reached) v ≡ true → v < nodes
     pub known : Known ranks as₁ as₂ (held front mask)
     pub rest :
-        expandAll (arrayGraph nodes 256 as₁ as₂) (take count ranks) rounds (bit done) (held front mask)
-        ≡ rooted (arrayGraph nodes 256 as₁ as₂) (take count ranks)
+        expandAll (roomGraph nodes as₁ as₂) (take count ranks) rounds (bit done) (held front mask)
+        ≡ rooted (roomGraph nodes as₁ as₂) (take count ranks)
 
   pub rounds-start : Rounds nodes (record { found = 1; reached = 1 }) 0 (replicate 64 0)
   rounds-start =
@@ -116,19 +120,19 @@ module _ (nodes count : ℕ) (ranks as₁ as₂ : List ℕ) where
         places = refl;
         inside = λ some v b. omega (arith, eqb-true 0 v (sym (bit-power 0 v) ∙ b));
         known = λ w k on. clash on (ap (λ (st : Rooted). st .path w k) (root-held 64));
-        rest = rw (root-held 64) (ap (λ d. expandAll (arrayGraph nodes 256 as₁ as₂) (take count ranks) nodes d root) (fun-ext bit-zero));
+        rest = rw (root-held 64) (ap (λ d. expandAll (roomGraph nodes as₁ as₂) (take count ranks) nodes d root) (fun-ext bit-zero));
       }
 
   walked :
       (front : Front) (mask : List ℕ) → length mask ≡ 64
-      → held front mask ≡ rooted (arrayGraph nodes 256 as₁ as₂) (take count ranks)
+      → held front mask ≡ rooted (roomGraph nodes as₁ as₂) (take count ranks)
       → Walked nodes count ranks as₁ as₂ (front .found) mask
   walked front mask l e =
-      let all : (edges : ℕ) → held front mask ≡ rooted (arrayGraph nodes edges as₁ as₂) (take count ranks) =
-      λ edges. e ∙ all-alike nodes 256 edges as₁ as₂ (take count ranks) nodes (λ _. false) root in
+      let all : (edges : ℕ) (as₄ : List ℕ) → held front mask ≡ rooted (arrayGraph nodes edges as₁ as₂ as₄) (take count ranks) =
+      λ edges as₄. e ∙ all-alike nodes edges as₁ as₂ as₄ (take count ranks) nodes (λ _. false) root in
       record {
-        found = λ edges. ap (λ (st : Rooted). st .found) (all edges);
-        paths = λ edges. ap (λ (st : Rooted). st .path) (all edges);
+        found = λ edges as₄. ap (λ (st : Rooted). st .found) (all edges as₄);
+        paths = λ edges as₄. ap (λ (st : Rooted). st .path) (all edges as₄);
         places = l;
       }
 
@@ -144,7 +148,7 @@ module _ (nodes count : ℕ) (ranks as₁ as₂ : List ℕ) where
     pub rounds-last : waiting ≡ 0 → Walked nodes count ranks as₁ as₂ (front .found) mask
     rounds-last e =
         walked front mask (h .places)
-        (sym (round-last (arrayGraph nodes 256 as₁ as₂) (take count ranks) rounds (bit done) (held front mask)
+        (sym (round-last (roomGraph nodes as₁ as₂) (take count ranks) rounds (bit done) (held front mask)
         (λ v. sym (apart v) ∙ rw e (bit-zero v))) ∙ h .rest)
 
     module _ (some : 0 < waiting) (fits : waiting < 2 ^ 64) (v : ℕ) (low : v ≡ first 64 (bit waiting)) where
@@ -162,14 +166,14 @@ module _ (nodes count : ℕ) (ranks as₁ as₂ : List ℕ) where
       module _ (ranked : RankedEnds nodes count ranks as₁ as₂) (adj : List ℕ) (words : Adjacency count ranks as₁ as₂ adj)
           (word : ℕ) (out : (j : ℕ) → bit word j ≡ (bit (getD adj v 0) j && not (bit (getD mask v 0) j)))
           (next : Front) (done′ : ℕ) (mask′ : List ℕ) (e : held next mask′ ≡ triedWord word ranks as₁ as₂ (held front mask)) where
-        expanded : held next mask′ ≡ expand (arrayGraph nodes 256 as₁ as₂) (take count ranks) v (held front mask)
+        expanded : held next mask′ ≡ expand (roomGraph nodes as₁ as₂) (take count ranks) v (held front mask)
         expanded =
             e ∙ own-out ranks as₁ as₂ word (held front mask) (h .known) (getD adj v 0) v out
-            ∙ word-expands count ranks as₁ as₂ adj (ranked .few) (ranked .within) words nodes 256 v (held front mask)
+            ∙ word-expands count ranks as₁ as₂ adj (ranked .few) (ranked .within) words nodes 256 v [] (held front mask)
 
         still-inside : 0 < nodes → (w : ℕ) → bit (next .reached) w ≡ true → w < nodes
         still-inside some w b =
-            expand-keeps (arrayGraph nodes 256 as₁ as₂) (take count ranks) Inside v (held front mask) (h .inside some)
+            expand-keeps (roomGraph nodes as₁ as₂) (take count ranks) Inside v (held front mask) (h .inside some)
             (λ k s l. reached-inside s _ (rw (getD-take count ranks k 0 (place k l)) (ranked .second k (place k l))))
             (λ k s l. reached-inside s _ (rw (getD-take count ranks k 0 (place k l)) (ranked .first k (place k l))))
             w (sym (ap (λ (st : Rooted). st .reached w) expanded) ∙ b)
@@ -194,14 +198,14 @@ module _ (nodes count : ℕ) (ranks as₁ as₂ : List ℕ) where
                     ap (λ (st : Rooted). st .found) expanded,
                     ranked .few,
                     length-take-le count ranks (ranked .within),
-                    scan-few (arrayGraph nodes 256 as₁ as₂) (take count ranks) v (length (take count ranks)) 0 (held front mask),
+                    scan-few (roomGraph nodes as₁ as₂) (take count ranks) v (length (take count ranks)) 0 (held front mask),
                   );
               places = places;
               inside = still-inside;
               known = subst (Known ranks as₁ as₂) (sym e) (known-word ranks as₁ as₂ word (held front mask) (h .known));
               rest =
                   rw (expanded, added (bit done) (bit done′) v with)
-                  (sym (round-more (arrayGraph nodes 256 as₁ as₂) (take count ranks) rounds (bit done) (held front mask) v l node-below node-first)
+                  (sym (round-more (roomGraph nodes as₁ as₂) (take count ranks) rounds (bit done) (held front mask) v l node-below node-first)
                   ∙ h .rest);
             }
 
@@ -219,14 +223,14 @@ ranked-most nodes count ranks as₁ as₂ h =
 
 -- ---- question 6
 
-module _ (nodes count : ℕ) (ranks as₁ as₂ : List ℕ) (within : count ≤ length ranks) (edges : ℕ) where
-  pub tree-missed : (count + 1 ≡ nodes → ⊥) → isTree (arrayGraph nodes edges as₁ as₂) (take count ranks) ≡ false
+module _ (nodes count : ℕ) (ranks as₁ as₂ : List ℕ) (within : count ≤ length ranks) (edges : ℕ) (as₄ : List ℕ) where
+  pub tree-missed : (count + 1 ≡ nodes → ⊥) → isTree (arrayGraph nodes edges as₁ as₂ as₄) (take count ranks) ≡ false
   tree-missed d = rw (length-take-le count ranks within, ne-eqb (suc count) nodes (λ e. d (omega arith)))
 
   pub tree-found :
       (r : ℕ) (mask : List ℕ) → count + 1 ≡ nodes → Walked nodes count ranks as₁ as₂ r mask
-      → eqb r nodes ≡ isTree (arrayGraph nodes edges as₁ as₂) (take count ranks)
-  tree-found r mask e h = rw (length-take-le count ranks within, eq-eqb (suc count) nodes (omega arith), h .found edges)
+      → eqb r nodes ≡ isTree (arrayGraph nodes edges as₁ as₂ as₄) (take count ranks)
+  tree-found r mask e h = rw (length-take-le count ranks within, eq-eqb (suc count) nodes (omega arith), h .found edges as₄)
 
 -- ---- the ranks on the paths
 
@@ -263,8 +267,8 @@ module _ (g : Graph) (ranks : List ℕ) where
 
 -- The ranks between the ends of an edge are those that it covers.
 pub across-covers :
-    (nodes edges : ℕ) (as₁ as₂ mask R : List ℕ) → paths mask ≡ rooted (arrayGraph nodes edges as₁ as₂) R .path
+    (nodes edges : ℕ) (as₁ as₂ as₄ mask R : List ℕ) → paths mask ≡ rooted (arrayGraph nodes edges as₁ as₂ as₄) R .path
     → (s k : ℕ)
     → across mask (getD as₁ s 0) (getD as₂ s 0) k
-    ≡ coversRank (arrayGraph nodes edges as₁ as₂) (rooted (arrayGraph nodes edges as₁ as₂) R) s k
-across-covers nodes edges as₁ as₂ mask R same s k = ap (λ p. xor (p (getD as₁ s 0) k) (p (getD as₂ s 0) k)) same
+    ≡ coversRank (arrayGraph nodes edges as₁ as₂ as₄) (rooted (arrayGraph nodes edges as₁ as₂ as₄) R) s k
+across-covers nodes edges as₁ as₂ as₄ mask R same s k = ap (λ p. xor (p (getD as₁ s 0) k) (p (getD as₂ s 0) k)) same

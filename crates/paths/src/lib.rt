@@ -1,6 +1,7 @@
 // Tree paths from node 0 in masks, and question 6, over links held in arrays (specs/Arrays.antt).
 ghost use mathlib.Core.Path.{_≡_};
 ghost use mathlib.Core.Bool.{true};
+ghost use mathlib.Core.List.{List};
 ghost use Prim.Native.Nat.{ℕ, _+_, _<_, _≤_};
 ghost use lib.ListN.{length, take};
 ghost use Rattle.bits.specs.Bit.{bit};
@@ -129,7 +130,8 @@ pub fn question6(
 ) -> bool
     requires places { ⌜ (count ≤ 256) × (count ≤ length (now ranks)) ⌝ }
     requires ends { ⌜ (count + 1 ≡ nodes → RankedEnds nodes count (now ranks) (now end1) (now end2)) ⌝ }
-    ensures answer { λ r. ⌜ ((edges : ℕ) → r ≡ isTree (arrayGraph nodes edges (now (end1 .entry)) (now (end2 .entry))) (take count (now (ranks .entry)))) ⌝ }
+    ensures answer { λ r. ⌜ ((edges : ℕ) (mark : List ℕ)
+        → r ≡ isTree (arrayGraph nodes edges (now (end1 .entry)) (now (end2 .entry)) mark) (take count (now (ranks .entry)))) ⌝ }
     ensures walked { λ r. ⌜ (r ≡ true → Walked nodes count (now (ranks .entry)) (now (end1 .entry)) (now (end2 .entry)) nodes (now (mask .exit))) ⌝ }
 {
     if count + 1 != nodes as usize {

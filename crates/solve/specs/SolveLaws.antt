@@ -2,9 +2,9 @@
 use Prim.Native.Nat.{ℕ, _-_, _^_, _<_, _≤_}
 use native.Mathlib.Omega.{arith}
 use mathlib.Core.Path.{_≡_, sym, ap, ap₂, subst, _∙_}
-use mathlib.Core.Bool.{not, xor, _&&_}
+use mathlib.Core.Bool.{xor, _&&_}
 use mathlib.Core.List.{List}
-use lib.Dec.{leb, ltb, eqb}
+use lib.Dec.{leb, ltb}
 use lib.ListN.{length, getD, take}
 use lib.Seq.{getD-take}
 use borrow.Author.Tests.{lt-ltb, le-ltb}
@@ -19,7 +19,7 @@ use Rattle.optimum.specs.Search.{Problem, matching}
 use Rattle.optimum.specs.Lowest.{labels}
 use Rattle.optimum.specs.Solve.{problem, newCosts, partners, pairAt, solve}
 use Rattle.optimum.specs.Range.{pairs-few}
-use Rattle.limits.specs.Limits.{stepBytes}
+use Rattle.limits.specs.Limits.{stepBytes, marksSpare}
 use Rattle.frame.specs.Job.{Job, link, graphOf, treeOf, costOf}
 use Rattle.frame.specs.Arrays.{Arrays}
 use Rattle.frame.specs.Answers.{answerOf}
@@ -59,7 +59,7 @@ module _ {j : Job} {n m : ℕ} {a : Arrays} (h : Held j n m a) where
       omega (arith, tree-price h t (omega arith), tree-price h t′ b, tree-falls g tr c t t′ l (omega (arith, tree-count h)))
 
   byRising : ℕ → (ℕ → ℕ) → (ℕ → ℕ) → List ℕ
-  byRising m cost mark = sorted (λ x y. leb (cost x) (cost y)) (members m (λ e. not (eqb (mark e) 1)))
+  byRising m cost mark = sorted (λ x y. leb (cost x) (cost y)) (members m (λ e. marksSpare (mark e)))
 
   spares-are : spareList m (a .links .cost) (a .links .mark) ≡ spareList′
   unfolding byRising
@@ -135,10 +135,10 @@ module _ {j : Job} {n m : ℕ} {a : Arrays} (h : Held j n m a) where
     mates-are : arrayMates mates ≡ matching pr
     mates-are = w .built .equal pr (tree-count h) (holds (w .ranks) rows (w .filled))
 
-    new-are : _≡_ {A = ℕ → ℕ} (λ e. getD costs e 0) (newCosts treeList′ spareList′ (labels pr (matching pr)))
+    new-are : _≡_ {A = ℕ → ℕ} (λ e. getD costs e 0) (newCosts c treeList′ spareList′ (labels pr (matching pr)))
     new-are =
         w .costed .new pr (tree-count h) (holds (w .ranks) rows (w .filled)) ∙
-        (λ i. newCosts (h .ranks i) (ss-are (w .ranks) i) (labels pr (mates-are i)))
+        (λ i. newCosts (h .stored .cost i) (h .ranks i) (ss-are (w .ranks) i) (labels pr (mates-are i)))
 
     mate-are : _≡_ {A = ℕ → ℕ} (λ e. getD mate e 0) (partners treeList′ spareList′ (matching pr))
     mate-are =

@@ -16,8 +16,8 @@ use Rattle.search.specs.State.{arrayMates, Below, Taken}
 use Rattle.covering.specs.Rows.{undercuts, RanksRise}
 use Rattle.matching.specs.Progress.{Edges, Holds, Built}
 
--- What placing new costs needs: a matching and the set of its spare ranks, ranks that name edges, and arrays of zeros.
-pub record Costable (trees spares : ℕ) (cost ts ss taken mates label costs : List ℕ) : Type 0 where
+-- What placing new costs needs: a matching and the set of its spare ranks, ranks that name edges, and no labels yet.
+pub record Costable (trees spares : ℕ) (cost ts ss taken mates label : List ℕ) : Type 0 where
   pub few-trees : trees ≤ 64
   pub few-spares : spares ≤ 256
   pub tree-edges : Edges trees ts
@@ -30,7 +30,7 @@ pub record Costable (trees spares : ℕ) (cost ts ss taken mates label costs : L
   pub taken-length : length taken ≡ 4
   pub taken-are : Taken mates taken
   pub unlabelled : label ≡ zeros 256
-  pub empty : costs ≡ zeros 256
+  pub places : length cost ≡ 256
 
 -- What it leaves: the model's new costs by edge, and the mates as they were.
 pub record Costed (trees spares : ℕ) (cost ts ss rows mates mates′ costs : List ℕ) : Type 0 where
@@ -38,7 +38,7 @@ pub record Costed (trees spares : ℕ) (cost ts ss rows mates mates′ costs : L
   pub same : arrayMates mates′ ≡ arrayMates mates
   pub new :
       (p : Problem) → p .trees ≡ trees → Holds p spares cost ts ss rows
-      → _≡_ {A = ℕ → ℕ} (λ e. getD costs e 0) (newCosts (take trees ts) (take spares ss) (labels p (arrayMates mates)))
+      → _≡_ {A = ℕ → ℕ} (λ e. getD costs e 0) (newCosts (λ e. getD cost e 0) (take trees ts) (take spares ss) (labels p (arrayMates mates)))
 
 -- The spares of links in arrays, by rank.
 pub record SparesRanked (edges : ℕ) (c : Columns) (spares : ℕ) (ss : List ℕ) : Type 0 where

@@ -68,7 +68,7 @@ pub fn answer_links(nodes: u32, list: ListCopy, area: &mut [u8]) -> Reply
         header,
         &mut end1,
         &mut end2,
-        &cost,
+        &mut cost,
         &mut mark,
         &ts,
         &mask,

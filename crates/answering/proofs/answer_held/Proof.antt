@@ -31,7 +31,7 @@ cast-edges c = search needs
 solve-requires : tie.Need-solve-requires
 solve-requires c κs =
     let e = c .before .before .before .before .before .before in
-    (e .before .before .pre (e .if1 .left), (refl, refl))
+    (e .before .before .pre (e .if1 .left), refl)
 
 write-answer-requires : tie.Need-write-answer-requires
 write-answer-requires c κs =

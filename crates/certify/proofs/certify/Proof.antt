@@ -49,7 +49,7 @@ steps-at r =
 abbrev cheapest-at : tie.After-load-answer → Bool
 cheapest-at r =
     let a = start-of r .args in
-    judge (arrayGraph (a .nodes) (a .edges) (a .end1 .now) (a .end2 .now)) (arrayTree (a .mark .now)) (arrayCost (costs-of r))
+    judge (arrayGraph (a .nodes) (a .edges) (a .end1 .now) (a .end2 .now) (a .mark .now)) (arrayTree (a .mark .now)) (arrayCost (costs-of r))
     (take (a .nodes - 1) (a .ts .now))
 
 abbrev held-at : tie.After-load-answer → Bool

@@ -4,11 +4,12 @@ use native.Mathlib.Omega.{arith}
 use mathlib.Core.Path.{_≡_, refl, sym, _∙_}
 use mathlib.Core.Logic.{⊎-elim}
 use mathlib.Core.Bool.{Bool, true}
+use borrow.Author.Needs.{needs}
 use borrow.Author.Tests.{not-true, not-false}
 use Rattle.loops.specs.Below.{allBelow}
 use Rattle.loops.specs.TestLaws.{all-miss, all-more}
 use Rattle.cheapest.specs.Judge.{linkHolds}
-use Rattle.cheapest.specs.JudgeLaws.{judged-spare, link-marked, link-spare, judge-links}
+use Rattle.cheapest.specs.JudgeLaws.{judged-spare, link-other, link-spare, judge-links}
 use Rattle.cheapest.proofs.judge_ranked.Statement.{statement}
 use Rattle.cheapest.proofs.judge_ranked.Tie as tie
 
@@ -23,18 +24,21 @@ loop-holds : tie.Need-loop-holds Inv-loop μ-loop
 unfolding allBelow
 loop-holds c = (omega arith, refl)
 
-mul-if1 : tie.Need-mul-if1 Inv-loop μ-loop
-mul-if1 c = omega (arith, c .before .before .pre .0 .links)
+mul-is-spare : tie.Need-mul-is-spare Inv-loop μ-loop
+mul-is-spare c = omega (arith, c .before .before .pre .0 .links)
 
-element-copy-out-if1 : tie.Need-element-copy-out-if1 Inv-loop μ-loop
-element-copy-out-if1 c = omega (arith, c .before .before .pre .0 .links)
+element-copy-out-is-spare : tie.Need-element-copy-out-is-spare Inv-loop μ-loop
+element-copy-out-is-spare c = omega (arith, c .before .before .pre .0 .links)
+
+is-spare-requires : tie.Need-is-spare-requires Inv-loop μ-loop
+is-spare-requires c κs = search needs
 
 cast-s : tie.Need-cast-s Inv-loop μ-loop
-cast-s c = omega (arith, c .before .before .before .before .pre .0 .links)
+cast-s c = omega (arith, c .before .before .before .before .before .pre .0 .links)
 
 spare-holds-requires : tie.Need-spare-holds-requires Inv-loop μ-loop
 spare-holds-requires c κs =
-    let i = c .before .before in
+    let i = c .before .before .before in
     let s = i .before .before in
     judged-spare _ _ _ _ _ _ _ _ (s .pre .0) (s .pre .1) (i .before .loop .e) (i .loop-test .taken)
 
@@ -46,32 +50,36 @@ holds s =
 returns : tie.Need-returns Inv-loop μ-loop
 returns c = λ nodes same.
     let h = c .before in
-    let i = h .before .before .before in
+    let m = h .before .before in
+    let i = m .before .before in
     let l = i .before .loop in
     let s = i .before .before in
     let a = s .args in
     sym (all-miss (a .edges) (holds s) (l .e) (i .loop-test .taken)
-    (link-spare (a .ranks .now) (a .end1 .now) (a .end2 .now) (a .cost .now) (a .mark .now) (a .mask .now) (l .e) (h .before .if1 .taken)
+    (link-spare (a .ranks .now) (a .end1 .now) (a .end2 .now) (a .cost .now) (a .mark .now) (a .mask .now) (l .e) (m .is-spare .ensures)
+    (h .before .if1 .taken)
     ∙ sym (h .spare-holds .ensures) ∙ not-true _ (c .if2 .taken)))
     ∙ judge-links nodes (a .edges) (a .count) (a .ranks .now) (a .end1 .now) (a .end2 .now) (a .cost .now) (a .mark .now) (a .mask .now) (s .pre .0) same
 
 add-e : tie.Need-add-e Inv-loop μ-loop
-add-e c = omega (arith, c .before .before .before .before .pre .0 .links)
+add-e c = omega (arith, c .before .before .before .before .before .pre .0 .links)
 
 loop-less : tie.Need-loop-less Inv-loop μ-loop
 loop-less c = omega arith
 
 loop-again : tie.Need-loop-again Inv-loop μ-loop
 loop-again c =
-    let i = c .before .before in
+    let m = c .before in
+    let i = m .before .before in
     let l = i .before .loop in
     let s = i .before .before in
     let a = s .args in (
       omega arith,
       all-more (l .e) (holds s) (l .inv .1) (⊎-elim
-          (λ w. link-spare (a .ranks .now) (a .end1 .now) (a .end2 .now) (a .cost .now) (a .mark .now) (a .mask .now) (l .e) (w .0 .taken)
+          (λ w. link-spare (a .ranks .now) (a .end1 .now) (a .end2 .now) (a .cost .now) (a .mark .now) (a .mask .now) (l .e) (m .is-spare .ensures)
+          (w .0 .taken)
           ∙ sym (w .1 .ensures) ∙ not-false _ (w .2 .left))
-          (λ w. link-marked (a .ranks .now) (a .end1 .now) (a .end2 .now) (a .cost .now) (a .mark .now) (a .mask .now) (l .e) (w .left))
+          (λ w. link-other (a .ranks .now) (a .end1 .now) (a .end2 .now) (a .cost .now) (a .mark .now) (a .mask .now) (l .e) (m .is-spare .ensures) (w .left))
           (c .if1 .came)),
     )
 
@@ -90,8 +98,9 @@ judge-ranked-spec =
     Inv-loop
     μ-loop
     loop-holds
-    mul-if1
-    element-copy-out-if1
+    mul-is-spare
+    element-copy-out-is-spare
+    is-spare-requires
     cast-s
     spare-holds-requires
     returns

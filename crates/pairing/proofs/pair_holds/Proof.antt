@@ -6,7 +6,7 @@ use native.Mathlib.Omega.{arith}
 use mathlib.Core.Path.{sym}
 use borrow.Author.Tests.{not-true, not-false}
 use Rattle.frame.specs.Arrays.{Arrays, arrays}
-use Rattle.pairing.specs.PairLaws.{tree-past, tree-unmarked, spare-past, spare-marked, spare-apart, pair-dearer}
+use Rattle.pairing.specs.PairLaws.{tree-past, tree-unmarked, spare-past, spare-other, spare-apart, pair-dearer}
 
 -- the job in its arrays
 abbrev held : tie.Start → Arrays
@@ -27,42 +27,53 @@ returns c =
     sym (tree-past (a .edges) (a .trees) (held t) (a .t .0) (a .s .0)
     (c .if1 .taken))
 
-mul-if2 : tie.Need-mul-if2
-mul-if2 c = search needs
+mul-is-tree : tie.Need-mul-is-tree
+mul-is-tree c = search needs
 
-element-copy-out-if2 : tie.Need-element-copy-out-if2
-element-copy-out-if2 c = search needs
+element-copy-out-is-tree : tie.Need-element-copy-out-is-tree
+element-copy-out-is-tree c = search needs
+
+is-tree-requires : tie.Need-is-tree-requires
+is-tree-requires c κs = search needs
 
 returns-2 : tie.Need-returns-2
 returns-2 c =
-    let e₁ = c .before .before in
+    let m = c .before in
+    let e₁ = m .before .before in
     let t = e₁ .before .before .before in
     let a = t .args in
     sym (tree-unmarked (a .edges) (a .trees) (held t) (a .t .0) (a .s .0)
-    (e₁ .if1 .left) (c .if2 .taken))
+    (m .is-tree .ensures) (e₁ .if1 .left) (not-true _ (c .if2 .taken)))
 
 returns-3 : tie.Need-returns-3
 returns-3 c =
-    let e₁ = c .before .before .before in
+    let m = c .before .before in
+    let e₁ = m .before .before in
     let t = e₁ .before .before .before in
     let a = t .args in
     sym (spare-past (a .edges) (a .trees) (held t) (a .t .0) (a .s .0)
-    (e₁ .if1 .left) (c .before .if2 .left) (c .if3 .taken))
+    (m .is-tree .ensures) (e₁ .if1 .left) (not-false _ (c .before .if2 .left)) (c .if3 .taken))
 
-mul-if4 : tie.Need-mul-if4
-mul-if4 c = search needs
+mul-is-spare : tie.Need-mul-is-spare
+mul-is-spare c = search needs
 
-element-copy-out-if4 : tie.Need-element-copy-out-if4
-element-copy-out-if4 c = search needs
+element-copy-out-is-spare : tie.Need-element-copy-out-is-spare
+element-copy-out-is-spare c = search needs
+
+is-spare-requires : tie.Need-is-spare-requires
+is-spare-requires c κs = search needs
 
 returns-4 : tie.Need-returns-4
 returns-4 c =
-    let e₃ = c .before .before in
-    let e₁ = e₃ .before .before .before in
+    let n = c .before in
+    let e₃ = n .before .before in
+    let m = e₃ .before .before in
+    let e₁ = m .before .before in
     let t = e₁ .before .before .before in
     let a = t .args in
-    sym (spare-marked (a .edges) (a .trees) (held t) (a .t .0) (a .s .0)
-    (e₁ .if1 .left) (e₃ .before .if2 .left) (e₃ .if3 .left) (c .if4 .taken))
+    sym (spare-other (a .edges) (a .trees) (held t) (a .t .0) (a .s .0)
+    (m .is-tree .ensures) (e₁ .if1 .left) (not-false _ (e₃ .before .if2 .left))
+    (n .is-spare .ensures) (e₃ .if3 .left) (not-true _ (c .if4 .taken)))
 
 rank-of-requires : tie.Need-rank-of-requires
 rank-of-requires c κs = search needs
@@ -82,20 +93,24 @@ element-copy-out-b c = search needs
 covers-requires : tie.Need-covers-requires
 covers-requires c κs =
     let e₄ = c .before .before .before in
-    let s = e₄ .before .before .before .before .before .before .before .before in
-    let link = e₄ .before .before .if3 .left in
+    let e₃ = e₄ .before .before .before in
+    let s = e₃ .before .before .before .before .before .before .before in
+    let link = e₃ .if3 .left in
     omega (arith, s .pre .first (s .args .s .0) link, s .pre .second (s .args .s .0) link, c .before .before .rank-of .ensures .1)
 
 returns-5 : tie.Need-returns-5
 returns-5 c =
     let k = c .before .before .before .before in
     let e₄ = k .before in
-    let e₃ = e₄ .before .before in
-    let e₁ = e₃ .before .before .before in
+    let n = e₄ .before in
+    let e₃ = n .before .before in
+    let m = e₃ .before .before in
+    let e₁ = m .before .before in
     let t = e₁ .before .before .before in
     let a = t .args in
     sym (spare-apart (a .edges) (a .trees) (held t) (a .t .0) (a .s .0)
-    (e₁ .if1 .left) (e₃ .before .if2 .left) (e₃ .if3 .left) (e₄ .if4 .left)
+    (m .is-tree .ensures) (e₁ .if1 .left) (not-false _ (e₃ .before .if2 .left))
+    (n .is-spare .ensures) (e₃ .if3 .left) (not-false _ (e₄ .if4 .left))
     (k .rank-of .result .0) (k .rank-of .ensures .0) (c .before .covers .result) (c .before .covers .ensures) (not-true _ (c .if5 .taken)))
 
 mul-result : tie.Need-mul-result
@@ -115,12 +130,15 @@ returns-6 c =
     let e₅ = c .before .before in
     let k = e₅ .before .before .before .before in
     let e₄ = k .before in
-    let e₃ = e₄ .before .before in
-    let e₁ = e₃ .before .before .before in
+    let n = e₄ .before in
+    let e₃ = n .before .before in
+    let m = e₃ .before .before in
+    let e₁ = m .before .before in
     let t = e₁ .before .before .before in
     let a = t .args in
-    pair-dearer (a .edges) (a .trees) (held t) (a .t .0) (a .s .0) (e₁ .if1 .left)
-    (e₃ .before .if2 .left) (e₃ .if3 .left) (e₄ .if4 .left)
+    pair-dearer (a .edges) (a .trees) (held t) (a .t .0) (a .s .0)
+    (m .is-tree .ensures) (e₁ .if1 .left) (not-false _ (e₃ .before .if2 .left))
+    (n .is-spare .ensures) (e₃ .if3 .left) (not-false _ (e₄ .if4 .left))
     (k .rank-of .result .0) (k .rank-of .ensures .0) (e₅ .before .covers .result) (e₅ .before .covers .ensures) (not-false _ (e₅ .if5 .left))
 
 pub pair-holds-spec : {M : Type 1} → statement M
@@ -130,12 +148,14 @@ pair-holds-spec =
     cast-tree
     cast-spare
     returns
-    mul-if2
-    element-copy-out-if2
+    mul-is-tree
+    element-copy-out-is-tree
+    is-tree-requires
     returns-2
     returns-3
-    mul-if4
-    element-copy-out-if4
+    mul-is-spare
+    element-copy-out-is-spare
+    is-spare-requires
     returns-4
     rank-of-requires
     mul-a

@@ -13,8 +13,10 @@ add-if1 c = search needs
 returns : tie.Need-returns
 returns c =
     let s = c .before in
-    let a = s .args in
-    (λ edges. sym (tree-missed (a .nodes) (a .count) (a .ranks .now) (a .end1 .now) (a .end2 .now) (s .pre .0 .1) edges (c .if1 .taken)), λ h. clash h refl)
+    let a = s .args in (
+      λ edges mark. sym (tree-missed (a .nodes) (a .count) (a .ranks .now) (a .end1 .now) (a .end2 .now) (s .pre .0 .1) edges mark (c .if1 .taken)),
+      λ h. clash h refl,
+    )
 
 root-paths-requires : tie.Need-root-paths-requires
 root-paths-requires c κs = c .before .before .pre .1 (c .before .if1 .left)
@@ -25,7 +27,8 @@ returns-2 c =
     let s = i .before in
     let a = s .args in
     let w = c .root-paths in (
-      λ edges. tree-found (a .nodes) (a .count) (a .ranks .now) (a .end1 .now) (a .end2 .now) (s .pre .0 .1) edges (w .result) _ (i .if1 .left) (w .ensures),
+      λ edges mark.
+          tree-found (a .nodes) (a .count) (a .ranks .now) (a .end1 .now) (a .end2 .now) (s .pre .0 .1) edges mark (w .result) _ (i .if1 .left) (w .ensures),
       λ h. rw (eqb-true (w .result) (a .nodes) h) at (w .ensures),
     )
 

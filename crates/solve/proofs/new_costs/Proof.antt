@@ -13,7 +13,7 @@ cast-label c = search needs
 
 label-requires : tie.Need-label-requires
 label-requires c κs =
-    let q = c .before .before .before .pre in
+    let q = c .before .before .before .before .pre in
     record {
       few-trees = q .few-trees;
       few-spares = q .few-spares;
@@ -36,16 +36,16 @@ slice-aggregate-place c = search needs
 place-requires : tie.Need-place-requires
 place-requires c κs =
     let l = c .before .before in
-    let q = l .before .before .before .before .pre in (
+    let q = l .before .before .before .before .before .pre in (
       record { places = q .tree-places; most = omega (arith, q .few-trees); edges = q .tree-edges },
-      (omega (arith, q .few-trees, l .label .ensures .tree-length), ap length (q .empty) ∙ length-zeros 256),
+      (omega (arith, q .few-trees, l .label .ensures .tree-length), q .places),
     )
 
 place-requires-2 : tie.Need-place-requires-2
 place-requires-2 c κs =
     let p = c .before .before .before in
     let l = p .before .before .before in
-    let q = l .before .before .before .before .pre in (
+    let q = l .before .before .before .before .before .pre in (
       record { places = q .spare-places; most = q .few-spares; edges = q .spare-edges },
       (omega (arith, q .few-spares, l .label .ensures .spare-length), p .place .ensures .1),
     )
@@ -54,12 +54,12 @@ returns : tie.Need-returns
 returns c =
     let p = c .before .before .before .before in
     let l = p .before .before .before in
-    let st = l .before .before .before .before in
+    let st = l .before .before .before .before .before in
     let a = st .args in
     costed (a .trees) (a .spares) (a .cost .now) (a .ts .now) (a .ss .now) (a .rows .now) (a .mates .now) (l .label .last .1 .1 .1 .1 .1 .1 .1 .0)
-    (l .label .last .1 .1 .1 .1 .1 .1 .1 .1 .0) (l .label .last .1 .1 .1 .1 .1 .1 .1 .1 .1 .0) (a .costs .now) (p .place .last .1 .1 .1 .0)
+    (l .label .last .1 .1 .1 .1 .1 .1 .1 .1 .0) (l .label .last .1 .1 .1 .1 .1 .1 .1 .1 .1 .0) (p .place .last .1 .1 .1 .0)
     (c .place2 .last .1 .1 .1 .0)
-    (l .label .ensures) (st .pre .empty) (p .place .ensures .0) (c .place2 .ensures .0)
+    (l .label .ensures) (p .place .ensures .0) (c .place2 .ensures .0)
 
 pub new-costs-spec : {M : Type 1} → statement M
 new-costs-spec =

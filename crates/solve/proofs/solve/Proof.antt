@@ -24,13 +24,13 @@ abbrev build-of : tie.After-new-costs → tie.After-build
 build-of nc = nc .before .before .before .before .before .before .before
 
 abbrev rows-of : tie.After-build → tie.After-fill-rows
-rows-of bu = bu .before .before .before .before .before .before .before
+rows-of bu = bu .before .before .before .before .before .before .before .before
 
 abbrev spares-of : tie.After-fill-rows → tie.After-spare-ranks
-spares-of f = f .before .before .before .before .before
+spares-of f = f .before .before .before .before .before .before
 
 abbrev start-of : tie.After-spare-ranks → tie.Start
-start-of sr = sr .before .before .before
+start-of sr = sr .before .before .before .before
 
 -- ---- what they have computed
 
@@ -58,7 +58,7 @@ placed :
     let t = start-of sr in
     MatesPlaced (t .args .nodes - 1) (t .args .edges) (arrays-of t) (sr .spare-ranks .result) (ss-of sr) (f .fill-rows .last .1 .1 .1 .1 .1 .1 .1 .1 .0)
     (bu .build .last .1 .1 .1 .1 .1 .1 .0) (bu .build .last .1 .1 .1 .1 .1 .1 .1 .0) (bu .build .result) (nc .new-costs .last .1 .1 .1 .1 .1 .1 .1 .0)
-    (nc .new-costs .last .1 .1 .1 .1 .1 .1 .1 .1 .1 .0) (pa .partners .last .1 .1 .1 .1 .0)
+    (nc .new-costs .last .1 .1 .0) (pa .partners .last .1 .1 .1 .1 .0)
 placed pa =
     let nc = costs-of pa in
     let bu = build-of nc in
@@ -78,7 +78,7 @@ sub-trees c = some-node (held c)
 
 spare-ranks-requires : tie.Need-spare-ranks-requires
 spare-ranks-requires c κs =
-    let t = c .before .before in
+    let t = c .before .before .before in
     let h = held t in (
       few-links h,
       refl,
@@ -87,7 +87,7 @@ spare-ranks-requires c κs =
 
 fill-rows-requires : tie.Need-fill-rows-requires
 fill-rows-requires c κs =
-    let sr = c .before .before .before .before in
+    let sr = c .before .before .before .before .before in
     let h = held (start-of sr) in
     let r = ranked sr in (
       (
@@ -106,11 +106,11 @@ fill-rows-requires c κs =
     )
 
 cast-build : tie.Need-cast-build
-cast-build c = omega (arith, most-spares (c .before .before .before .before .before .before .before))
+cast-build c = omega (arith, most-spares (c .before .before .before .before .before .before .before .before))
 
 build-requires : tie.Need-build-requires
 build-requires c κs =
-    let sr = c .before .before .before .before .before .before .before .before .before .before .before in
+    let sr = c .before .before .before .before .before .before .before .before .before .before .before .before .before in
     let h = held (start-of sr) in
     record {
       few-trees = omega (arith, few-nodes h);
@@ -143,7 +143,7 @@ new-costs-requires c κs =
       taken-length = bu .build .ensures .taken-length;
       taken-are = bu .build .ensures .taken-are;
       unlabelled = refl;
-      empty = t .pre .1 .0;
+      places = h .stored .cost-places;
     }
 
 partners-requires : tie.Need-partners-requires
@@ -169,10 +169,10 @@ list-pairs-requires : tie.Need-list-pairs-requires
 list-pairs-requires c κs =
     let pa = c .before .before in
     let t = start-of (spares-of (rows-of (build-of (costs-of pa)))) in
-    (few-links (held t), (few-pairs (held t) (placed pa), t .pre .1 .1))
+    (few-links (held t), (few-pairs (held t) (placed pa), t .pre .1))
 
-cast-t28 : tie.Need-cast-t28
-cast-t28 c =
+cast-t29 : tie.Need-cast-t29
+cast-t29 c =
     let pa = c .before .before .before in
     omega (arith, small-steps (held (start-of (spares-of (rows-of (build-of (costs-of pa)))))) (placed pa))
 
@@ -197,5 +197,5 @@ solve-spec =
     new-costs-requires
     partners-requires
     list-pairs-requires
-    cast-t28
+    cast-t29
     returns)
