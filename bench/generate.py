@@ -3,7 +3,7 @@
 Run: python3 bench/generate.py DIR
 
 A file holds job frames one after another, each preceded by its length in four bytes, lowest first. A link is a list of
-two ends, cost and mark (1 tree, 0 spare).
+two ends, cost and mark (1 tree, 0 spare, 2 unplugged).
 """
 import random
 import sys
@@ -98,13 +98,21 @@ def full(rng):
     return job_frame(NODES, random_job(rng, NODES, EDGES))
 
 
-FULL_AGAIN = random.Random(full.__name__)
+FULL_FOR_WIDE, FULL_FOR_UNPLUGGED = random.Random(full.__name__), random.Random(full.__name__)
 
 
 def wide(rng):
     """The next job of `full` with seven bits more to every cost."""
-    links = random_job(FULL_AGAIN, NODES, EDGES)
+    links = random_job(FULL_FOR_WIDE, NODES, EDGES)
     return job_frame(NODES, [[a, b, 128 * cost + rng.randrange(128), mark] for a, b, cost, mark in links])
+
+
+def unplugged(rng):
+    """The next job of `full` with a third of its links unplugged, all of them spares there."""
+    links = random_job(FULL_FOR_UNPLUGGED, NODES, EDGES)
+    for link in rng.sample([link for link in links if link[3] == 0], EDGES // 3):
+        link[3] = 2
+    return job_frame(NODES, links)
 
 
 def level_job(rng, tree, tree_cost, spare_cost):
@@ -201,6 +209,7 @@ def refused4(rng):
 
 
 def refused5(rng):
+    """2 is a mark too, but is never drawn here."""
     nodes, links = sound(rng)
     rng.choice(links)[3] = rng.randint(2, TWO_BYTES_MOST)
     return job_frame(nodes, links)
@@ -223,8 +232,8 @@ def damaged(rng):
     return rng.choice([refused1, refused2, refused3, refused4, refused5, refused6])(rng)
 
 
-FILES = [(tiny, 1000), (medium, 100), (full, 100), (wide, 100), (adversarial, 100), (equal, 100), (twolevel, 100),
-         (damaged, 1000)]
+FILES = [(tiny, 1000), (medium, 100), (full, 100), (wide, 100), (unplugged, 100), (adversarial, 100), (equal, 100),
+         (twolevel, 100), (damaged, 1000)]
 
 
 def main():

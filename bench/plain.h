@@ -16,7 +16,8 @@ enum {
     PLAIN_WORDS = PLAIN_EDGES / 64,
 };
 
-/* An accepted job. Tree edges have ranks by falling cost, spares by rising cost; of equal costs the lower edge is first. */
+/* An accepted job. Tree edges have ranks by falling cost, spares by rising cost; of equal costs the lower edge is first.
+ * Unplugged edges have none. */
 typedef struct {
     unsigned nodes, edges, trees, spares;
     uint32_t number[PLAIN_NUMBERS];                /* the numbers of the frame */

@@ -1,14 +1,16 @@
 """A brute-force reference for the jobs of document 01, and a generator of small jobs.
 
-It reads and judges frames by the document's words and finds answers by trying everything: all spanning trees, all choices
-of whole-number costs by rising steps (0 steps, 1 step, ..: no window, so negative costs are among them), all pairings.
+It reads and judges frames by the document's words and finds answers by trying everything: all spanning trees of plugged
+links, all choices of whole-number costs for all links by rising steps (0 steps, 1 step, ..: no window, so negative costs are
+among them), all pairings.
 It knows no path test for "cheapest" and no search for pairings, so it shares no idea with the model that it is held against.
 A step sheet is divided into all its numbers first, and then asked as a whole; the model takes entry by entry.
 
 Run: python3 tests/brute_force.py [COUNT]    solves COUNT small random jobs (default 100) and a larger one for every four,
 with the assertions below, and prints figures.
 Asserted of every solved job: one best choice is lowest at every link and stays between the smallest and the largest old
-cost; the greatest weight of a pairing equals the steps; the lowest costs follow from each best pairing as the document says.
+cost; no best choice moves an unplugged link; the greatest weight of a pairing equals the steps; the lowest costs follow from
+each best pairing as the document says.
 Step sheets and new costs that are in form give each other byte for byte; the absolute changes of the sheet of a best choice
 add up to the steps. Of all short strings of small bytes, those that are the sheet of some costs are read, and no others.
 """
@@ -26,6 +28,8 @@ Solution = namedtuple("Solution", "steps best lowest pairings")
 # How many bytes a number may take, how many the first of an answer, and how many one of a step sheet; the largest numbers.
 NUMBER_BYTES, STEP_BYTES, SHEET_BYTES = 3, 4, 4
 NUMBER_MOST, SHEET_MOST = 128 ** NUMBER_BYTES - 1, 128 ** SHEET_BYTES - 1
+# The marks. An unplugged link is laid, but its plug is out.
+SPARE, TREE, UNPLUGGED = MARKS = 0, 1, 2
 
 
 # Numbers: groups of seven bits, lowest group first, the top bit 1 in every byte but the last, shortest form only.
@@ -99,7 +103,7 @@ def job_refusal(job):
     """Questions 4 to 6."""
     if any(link.end1 >= job.stations or link.end2 >= job.stations or link.end1 == link.end2 for link in job.links):
         return 4
-    if any(link.mark not in (0, 1) for link in job.links):
+    if any(link.mark not in MARKS for link in job.links):
         return 5
     tree = tree_links(job)
     return 0 if len(tree) == job.stations - 1 and joins_all(job, tree) else 6
@@ -107,12 +111,20 @@ def job_refusal(job):
 
 # Spanning trees and what is cheapest.
 
+def marked_links(job, mark):
+    return [e for e, link in enumerate(job.links) if link.mark == mark]
+
+
 def tree_links(job):
-    return [e for e, link in enumerate(job.links) if link.mark == 1]
+    return marked_links(job, TREE)
 
 
 def spare_links(job):
-    return [e for e, link in enumerate(job.links) if link.mark == 0]
+    return marked_links(job, SPARE)
+
+
+def unplugged_links(job):
+    return marked_links(job, UNPLUGGED)
 
 
 def old_costs(job):
@@ -130,7 +142,8 @@ def joins_all(job, chosen):
 
 
 def spanning_trees(job):
-    return [tree for tree in combinations(range(len(job.links)), job.stations - 1) if joins_all(job, tree)]
+    plugged = sorted(tree_links(job) + spare_links(job))
+    return [tree for tree in combinations(plugged, job.stations - 1) if joins_all(job, tree)]
 
 
 def total(costs, tree):
@@ -252,6 +265,8 @@ def solve(job):
     steps, best = best_choices(job)
     listed = best_pairings(job, steps)
     lowest = lowest_choice(job, best)
+    kept = [(e, job.links[e].cost) for e in unplugged_links(job)]
+    assert all(costs[e] == old for costs in best for e, old in kept), "a best choice moves an unplugged link"
     assert listed, "no best pairing has only pairs that fall"
     assert all(costs_follow(job, lowest, pairs) for pairs in listed), "the lowest costs do not follow from the pairing"
     return Solution(steps, best, lowest, listed)
@@ -389,7 +404,14 @@ def random_job(rng, stations, links, top):
     tree = [Link(a, b, base + rng.randint(0, top), 1) for a, b in random_tree(rng, stations)]
     ends = [rng.sample(range(stations), 2) for _ in range(spares)]
     spare = [Link(a, b, base + rng.randint(0, rng.choice([1, top])), 0) for a, b in ends]
+    spare = some_unplugged(rng, spare, rng.choice([0, 1 / 3, 1 / 2]), max(1, base), base + max(1, top // 2))
     return Job(stations, rng.sample(tree + spare, len(tree + spare)))
+
+
+def some_unplugged(rng, spare, share, least, most):
+    """The spares with about that share of them unplugged, at costs that most tree links exceed; none costs 0, so that each
+    has a cost to keep."""
+    return [link._replace(cost=rng.randint(least, most), mark=UNPLUGGED) if rng.random() < share else link for link in spare]
 
 
 def small_job(rng):
@@ -443,9 +465,9 @@ def wrong_links(rng, job):
         wrong = rng.choice([job.stations, job.stations + 1, 16383, 16384, 65536 + links[e].end1, NUMBER_MOST])
         links[e] = links[e]._replace(**{rng.choice(["end1", "end2"]): wrong})
     if kind == 2:
-        links[e] = links[e]._replace(mark=rng.choice([2, 3, 129, 16383, 16384, 65537, NUMBER_MOST]))
+        links[e] = links[e]._replace(mark=rng.choice([3, 4, 129, 130, 16383, 16384, 65537, 65538, NUMBER_MOST]))
     if kind == 3:
-        links[e] = links[e]._replace(mark=1 - links[e].mark)
+        links[e] = links[e]._replace(mark=rng.choice([mark for mark in MARKS if mark != links[e].mark]))
     if kind == 4:
         links[e] = links[e]._replace(mark=job.links[other].mark)
         links[other] = links[other]._replace(mark=job.links[e].mark)
@@ -469,7 +491,7 @@ def made_elsewhere(rng, job, solution):
     pairs = rng.choice(solution.pairings)
     right = Answer(solution.steps, solution.lowest, pairs)
     made = [("right", right), *best_answers(rng, job, solution, pairs)]
-    made += [*other_costs(rng, job, right), *other_pairs(rng, job, right)]
+    made += [*other_costs(rng, job, right), *other_pairs(rng, job, right), *other_plugs(rng, job, right)]
     frames = [(answer_frame(answer), about) for about, answer in made]
     return dict(damaged_answers(rng, right) + frames[::-1])
 
@@ -516,10 +538,31 @@ def other_pairs(rng, job, right):
     yield from [("no pairing", right._replace(pairs=p)) for p in rng.sample(near, min(2, len(near)))]
 
 
+def other_plugs(rng, job, right):
+    """Answers that move or pair an unplugged link: one link moved, with the steps counted and not; all set to 0; and the
+    answer to the job with every link plugged, which is right only if it pairs none of them."""
+    unplugged = unplugged_links(job)
+    for e in rng.sample(unplugged, min(1, len(unplugged))):
+        moved = with_costs(right.costs, {e: right.costs[e] + rng.choice([-1, 1])})
+        if in_range(moved):
+            yield "an unplugged link moved", right._replace(steps=right.steps + 1, costs=moved)
+            yield "an unplugged link moved, not counted", right._replace(costs=moved)
+    if unplugged:
+        zero = with_costs(right.costs, {e: 0 for e in unplugged})
+        yield "unplugged links set to 0", right._replace(steps=steps_of(job, zero), costs=zero)
+        plugged = solve(Job(job.stations, [link._replace(mark=link.mark % UNPLUGGED) for link in job.links]))
+        yield "all links plugged", Answer(plugged.steps, plugged.lowest, rng.choice(plugged.pairings))
+
+
+def with_costs(costs, other):
+    return [other.get(e, cost) for e, cost in enumerate(costs)]
+
+
 def near_pairings(job, steps):
-    """Lists that rise, fall and weigh the steps, but hold a spare twice or one that does not lie over its tree link."""
+    """Lists that rise, fall and weigh the steps, but hold a spare twice, one that does not lie over its tree link, or an
+    unplugged link."""
     tree = tree_links(job)
-    mates = product([None, *spare_links(job)], repeat=len(tree))
+    mates = product([None, *spare_links(job), *unplugged_links(job)], repeat=len(tree))
     lists = [[(t, s) for t, s in zip(tree, some) if s is not None] for some in mates]
     return [p for p in lists if weight(job, p) == steps and falls(job, p) and not pairing_holds(job, p)]
 
@@ -621,9 +664,9 @@ def hold_sheets(rng, job, solution):
         assert sum(abs(change) for change in changes) == solution.steps, "the changes do not add up to the steps"
 
 
-def hold_every_string():
+def hold_every_string(mark):
     """Of all strings of up to five bytes 0 to 4, those are read that are the sheet of some costs. None leads past cost 3."""
-    job = Job(2, [Link(0, 1, 1, 1), Link(0, 1, 1, 0)])
+    job = Job(2, [Link(0, 1, 1, TREE), Link(0, 1, 1, mark)])
     sheets = {sheet_of(job, bytes(costs)): bytes(costs) for costs in product(range(4), repeat=2)}
     strings = [bytes(some) for size in range(6) for some in product(range(5), repeat=size)]
     assert all(costs_of(job, string) == sheets.get(string) for string in strings), "a string is not read as its costs"
@@ -639,8 +682,10 @@ def main():
         assert judge_tree(job) == (solution.steps == 0)
         assert all(judge_answer(job, frame) for frame in right_answers(solution))
         hold_sheets(rng, job, solution)
-    hold_every_string()
+    for mark in (SPARE, UNPLUGGED):
+        hold_every_string(mark)
     print(len(jobs), "jobs solved; steps and how often:", dict(sorted(Counter(s.steps for s in solutions).items())))
+    print(sum(1 for job in jobs if unplugged_links(job)), "of them have unplugged links")
 
 
 if __name__ == "__main__":

@@ -19,7 +19,7 @@ from pathlib import Path
 sys.dont_write_bytecode = True
 
 import brute_force as reference
-from brute_force import NUMBER_MOST, Answer, Job, Link, Solution
+from brute_force import NUMBER_MOST, TREE, UNPLUGGED, Answer, Job, Link, Solution
 
 ROOT = Path(__file__).resolve().parent.parent
 STANDS_ON = "sheet frame optimum graph number loops limits"
@@ -101,7 +101,7 @@ ROWS = {
     "02 01 00 01 FF 7F 01": ["00 FF 7F 00"],
     "80 00": 1,
     "": 2,
-    "02 01 00 00 05 02": 4,
+    "02 01 00 00 05 03": 4,
     "40 00": 6,
     "41 00": 2,
     "00 00": 2,
@@ -115,6 +115,7 @@ ROWS = {
     "02 01 00 81 80 04 05 01": 4,
     "02 01 00 01 05 80 80 01": 5,
     "02 01 00 01 05 81 80 04": 5,
+    "02 02 00 01 05 01 00 01 03 82 80 04": 5,
     "02 01 00 01 80 80 01 01": ["00 80 80 01 00"],
     "02 01 00 01 FF FF 7F 01": ["00 FF FF 7F 00"],
     "02 01 00 01 80 80 80 01 01": 1,
@@ -127,7 +128,13 @@ ROWS = {
     "03 03 00 01 05 01 01 02 05 01 02 00 05 01": 6,
     "02 01 02 01 05 01": 4,
     "02 01 00 02 05 01": 4,
-    "02 01 00 01 05 02": 5,
+    "02 01 00 01 05 03": 5,
+    "02 01 00 01 05 02": 6,
+    "03 02 00 01 05 01 01 02 05 02": 6,
+    "02 02 00 01 05 01 00 00 03 02": 4,
+    "02 02 00 01 05 01 00 02 03 02": 4,
+    "02 02 00 01 05 01 00 01 03 02": ["00 05 03 00"],
+    "03 04 00 01 05 01 01 02 04 01 00 02 01 02 00 02 02 00": ["03 04 04 01 04 01 00 03"],
     "01 00 00": 3,
     "05": 2,
     "03 04 00 01 09 01 01 02 08 01 00 02 01 00 00 02 03 00": [
@@ -139,25 +146,32 @@ T1 = bytes.fromhex("03 03 00 01 05 01 01 02 04 01 00 02 02 00")
 T1_ANSWER = bytes.fromhex("03 04 04 04 01 00 02")
 T1_JUDGED = {"03 05 04 05 01 00 02": True, "04 03 03 03 01 00 02": False}
 
-# Jobs at the limits: 64 stations in a ring; 256 links; both, in a frame of 1,539 bytes.
+# A tree link and a cheaper one beside it that is unplugged. Only the first of these answers neither moves a link nor pairs it.
+IDLE = bytes.fromhex("02 02 00 01 05 01 00 01 03 02")
+IDLE_JUDGED = {"00 05 03 00": True, "01 05 04 00": False, "01 05 02 00": False, "03 05 00 00": False,
+               "02 03 03 01 00 01": False, "02 05 05 01 00 01": False, "00 05 03 01 00 01": False}
+
+# Jobs at the limits: 64 stations in a ring; 256 links; both, in a frame of 1,539 bytes. Unplugged links are among the last two.
 RING = Job(64, [Link(i, i + 1, 5 + i % 3, 1) for i in reversed(range(63))] + [Link(0, 63, 6, 0)])
-FULL = Job(2, 100 * [Link(0, 1, 6, 0)] + [Link(1, 0, 4, 1)] + 154 * [Link(0, 1, 5, 0)] + [Link(0, 1, 3, 0)])
-LONGEST = Job(64, [Link(i, i + 1, NUMBER_MOST, 1) for i in range(63)] + [Link(0, 1 + i % 63, 16384, 0) for i in range(193)])
+FULL = Job(2, 100 * [Link(0, 1, 6, 0)] + [Link(1, 0, 4, 1)] + 77 * [Link(0, 1, 5, 0), Link(0, 1, 2, 2)] + [Link(0, 1, 3, 0)])
+LONGEST = Job(64, [Link(i, i + 1, NUMBER_MOST, 1) for i in range(63)]
+              + [Link(0, 1 + i % 63, 16384, UNPLUGGED * (i % 3 == 0)) for i in range(193)])
 
 # Tree costs for steps of three bytes and of four: too many for the reference to try every choice, but the answer is plain.
 FAR_COSTS = (16383, NUMBER_MOST)
 
 # Jobs lent as lists: a number above 2,097,151 is refused first.
 LENT = [
-    Job(2, [Link(0, 1, 16383, 1)]), Job(2, [Link(0, 1, 16384, 1)]), Job(16384, [Link(0, 0, 5, 2)]),
+    Job(2, [Link(0, 1, 16383, 1)]), Job(2, [Link(0, 1, 16384, 1)]), Job(16384, [Link(0, 0, 5, 3)]),
     Job(2, [Link(16384, 0, 5, 1)]), Job(2, [Link(0, 16384, 5, 1)]), Job(2, [Link(0, 1, 5, 16384)]),
-    Job(2, [Link(0, 1, 2097151, 1)]), Job(2, [Link(0, 1, 2097152, 1)]), Job(2097152, [Link(0, 0, 5, 2)]),
+    Job(2, [Link(0, 1, 2097151, 1)]), Job(2, [Link(0, 1, 2097152, 1)]), Job(2097152, [Link(0, 0, 5, 3)]),
     Job(2, [Link(2097151, 0, 5, 1)]), Job(2, [Link(0, 2097151, 5, 1)]), Job(2, [Link(0, 1, 5, 2097151)]),
     Job(2, [Link(2097152, 0, 5, 1)]), Job(2, [Link(0, 2097152, 5, 1)]), Job(2, [Link(0, 0, 5, 2097152)]),
     Job(0, []), Job(1, []), Job(64, []), Job(65, []), Job(16384, []), Job(2097151, []), Job(2097152, []),
-    Job(2, [Link(0, 0, 5, 2)]), Job(2, [Link(0, 1, 5, 2)]), Job(2, [Link(0, 1, 5, 0)]), Job(2, 2 * [Link(0, 1, 5, 1)]),
+    Job(2, [Link(0, 0, 5, 3)]), Job(2, [Link(0, 1, 5, 3)]), Job(2, [Link(0, 1, 5, 0)]), Job(2, 2 * [Link(0, 1, 5, 1)]),
+    Job(2, [Link(0, 0, 5, 2)]), Job(2, [Link(0, 1, 5, 2)]), Job(2, [Link(0, 1, 5, 1), Link(1, 0, 3, 2)]),
     Job(4, [Link(0, 1, 5, 1), Link(1, 0, 5, 1), Link(2, 3, 5, 1)]),
-    Job(2, 256 * [Link(0, 0, 5, 2)]), Job(2, 257 * [Link(0, 0, 5, 2)]),
+    Job(2, 256 * [Link(0, 0, 5, 3)]), Job(2, 257 * [Link(0, 0, 5, 3)]),
 ]
 
 # Jobs of no link, one and two, with costs at the ends of the range.
@@ -219,6 +233,7 @@ class Probe:
         self.step_rng = random.Random(seed)
         self.facts = []
         self.refusals = Counter()
+        self.unplugged = 0
         self.steps = Counter()
         self.judged = Counter()
         self.translated = {make: Counter() for make in STEPPED}
@@ -238,6 +253,7 @@ class Probe:
         s = bytes_text(frame)
         number = reference.refusal(frame)
         self.refusals[number] += 1
+        self.unplugged += number == 0 and bool(reference.unplugged_links(reference.job_of(frame)))
         self.state(frame, "refusal", f"refusal {s}", number)
         if number not in (1, 2, 3):
             self.state(frame, "refusal of the list", f"listRefusal (jobOf {s})", number)
@@ -360,15 +376,20 @@ def document_rows(probe):
             right = reference.right_answers(reference.solve(reference.job_of(frame)))
             assert sorted(right) == sorted(bytes.fromhex(answer) for answer in result), row
         probe.frame(frame)
+    judged_rows(probe, T1, T1_JUDGED)
+    judged_rows(probe, IDLE, IDLE_JUDGED)
     first_row(probe)
 
 
+def judged_rows(probe, frame, judged):
+    job = reference.job_of(frame)
+    for answer, yes in judged.items():
+        assert reference.judge_answer(job, bytes.fromhex(answer)) == yes, answer
+        probe.judge(frame, job, bytes.fromhex(answer), "a row")
+
+
 def first_row(probe):
-    """T1: the two answers that the document judges, and areas of 6, 7 and 9 bytes, painted."""
-    job = reference.job_of(T1)
-    for answer, judged in T1_JUDGED.items():
-        assert reference.judge_answer(job, bytes.fromhex(answer)) == judged, answer
-        probe.judge(T1, job, bytes.fromhex(answer), "document 01")
+    """T1 in areas of 6, 7 and 9 bytes, painted."""
     for paint in (0, 170, 255):
         for length in (6, 7, 9):
             probe.outcome(T1, T1_ANSWER, length * [paint])
@@ -390,7 +411,7 @@ def limit_jobs(probe):
 def longest_sheet(probe):
     """All 256 links moved, each by a change of four bytes: a sheet of 1,410 bytes."""
     frame = reference.job_frame(LONGEST)
-    costs = reference.write_numbers([0 if link.mark else NUMBER_MOST for link in LONGEST.links])
+    costs = reference.write_numbers([0 if link.mark == TREE else NUMBER_MOST for link in LONGEST.links])
     sheet = reference.sheet_of(LONGEST, costs)
     assert len(sheet) == 1410
     probe.stepped(frame, reference.sheet_of, costs, "to the longest sheet")
@@ -496,6 +517,7 @@ def spoilt(facts):
 def show_figures(probe):
     refused = {number: times for number, times in sorted(probe.refusals.items()) if number}
     print(f"accepted jobs: {probe.refusals[0]}, by steps {dict(sorted(probe.steps.items()))}")
+    print(f"{probe.unplugged} of them have unplugged links")
     print(f"refused frames: {sum(refused.values())}, by number {refused}")
     print(f"lent lists: {len(LENT)}")
     print(f"answers judged: {sum(probe.judged.values())}, yes {probe.judged[True]}, no {probe.judged[False]}")

@@ -5,6 +5,7 @@ The program is target/bin/settle, or the one that the environment variable SETTL
 
 Refusals and the answers to small jobs are held to the brute-force reference. For larger jobs the pairing is the proof: the
 steps are both the sum of the changes and the pairing's weight, and the marked tree is cheapest with the new costs.
+Unplugged links are printed as any other, with their old cost twice.
 It prints how many frames of each kind were run and OK, or the first difference with its frame, and then exits with 1.
 """
 import os
@@ -18,7 +19,7 @@ from pathlib import Path
 sys.dont_write_bytecode = True
 
 import brute_force as reference
-from brute_force import NUMBER_MOST, Answer, Job, Link
+from brute_force import NUMBER_MOST, UNPLUGGED, Answer, Job, Link
 
 PROGRAM = os.environ.get("SETTLE") or str(Path(__file__).resolve().parent.parent / "target/bin/settle")
 LONGEST_INPUT = 65536
@@ -34,7 +35,7 @@ ROWS = {
     "T5": ("02 01 00 01 FF 7F 01", "00 FF 7F 00"),
     "T6": ("80 00", 1),
     "T7": ("", 2),
-    "T8": ("02 01 00 00 05 02", 4),
+    "T8": ("02 01 00 00 05 03", 4),
     "T9": ("40 00", 6),
     "65 stations": ("41 00", 2),
     "no station": ("00 00", 2),
@@ -45,6 +46,12 @@ ROWS = {
     "an end of three bytes": ("02 01 80 80 04 01 05 01", 4),
     "another end of three bytes": ("02 01 00 81 80 04 05 01", 4),
     "a mark of three bytes": ("02 01 00 01 05 81 80 04", 5),
+    "another mark of three bytes": ("02 02 00 01 05 01 00 01 03 82 80 04", 5),
+    "mark 3": ("02 02 00 01 05 01 00 01 03 03", 5),
+    "the tree unplugged": ("02 01 00 01 05 02", 6),
+    "equal ends of an unplugged link": ("02 02 00 01 05 01 00 00 03 02", 4),
+    "an unplugged link": ("02 02 00 01 05 01 00 01 03 02", "00 05 03 00"),
+    "T1 with an unplugged link": ("03 04 00 01 05 01 01 02 04 01 00 02 01 02 00 02 02 00", "03 04 04 01 04 01 00 03"),
     "a cost of 16,384": ("02 01 00 01 80 80 01 01", "00 80 80 01 00"),
     "a cost of 2,097,151": ("02 01 00 01 FF FF 7F 01", "00 FF FF 7F 00"),
     "a cost of 2,097,152": ("02 01 00 01 80 80 80 01 01", 1),
@@ -66,6 +73,8 @@ TRAPS = {
     "all links set to one cost": ("03 03 00 01 02 01 01 02 09 01 00 01 05 00", 0, 7),
     "a made-up step count": (ROWS["T4"][0], 1, 0),
     "an empty pairing": (ROWS["T4"][0], 1, 0),
+    "an unplugged link taken for a spare": (ROWS["an unplugged link"][0], 0, 2),
+    "an unplugged link's cost set to 0": (ROWS["an unplugged link"][0], 0, 3),
 }
 
 
@@ -119,9 +128,10 @@ def read_answer(job, printed):
 
 
 def cheapest_total(job, costs):
-    """The total cost of a cheapest spanning tree: links by rising cost, each one that joins two groups of stations."""
+    """The total cost of a cheapest spanning tree: plugged links by rising cost, each that joins two groups of stations."""
     group, total = list(range(job.stations)), 0
-    for e in sorted(range(len(job.links)), key=lambda e: costs[e]):
+    plugged = [e for e, link in enumerate(job.links) if link.mark != UNPLUGGED]
+    for e in sorted(plugged, key=lambda e: costs[e]):
         one, other = group[job.links[e].end1], group[job.links[e].end2]
         if one != other:
             total += costs[e]
@@ -158,6 +168,7 @@ def check_proof(job, answer):
         "the old tree cost is above the old spare cost": all(old[t] > old[s] for t, s in pairs if t in tree and s in spare),
         "the steps are the sum of the changes": steps == sum(abs(new - was) for new, was in zip(costs, old)),
         "the tree is cheapest with the new costs": sum(costs[t] for t in tree) == cheapest_total(job, costs),
+        "unplugged links keep their costs": all(costs[e] == old[e] for e in reference.unplugged_links(job)),
     }
     for rule, holds in rules.items():
         if not holds:
@@ -189,10 +200,11 @@ def check_frame(frame, solved=False):
 # Frames.
 
 def full_job(rng, top):
-    """64 stations and 256 links, all costs random; the tree is random or a path."""
+    """64 stations and 256 links, all costs random; the tree is random or a path; a third of the spares may be unplugged."""
     ends = reference.random_tree(rng, 64) if rng.random() < 0.5 else [(i, i + 1) for i in range(63)]
     tree = [Link(a, b, rng.randint(0, top), 1) for a, b in ends]
     spare = [Link(*rng.sample(range(64), 2), rng.randint(0, top), 0) for _ in range(193)]
+    spare = reference.some_unplugged(rng, spare, rng.choice([0, 1 / 3]), 1, max(1, top // 2))
     return Job(64, rng.sample(tree + spare, 256))
 
 
@@ -224,7 +236,7 @@ def bad_frame(rng):
     parts = reference.pieces(frame)
     place = rng.randrange(len(parts))
     value = reference.number_of(parts[place], reference.NUMBER_BYTES)
-    numbers = [0, 1, 2, 63, 64, 65, 128, 256, 257, 16383, 16384, 65536, 65537, NUMBER_MOST]
+    numbers = [0, 1, 2, 3, 63, 64, 65, 128, 256, 257, 16383, 16384, 65536, 65537, NUMBER_MOST]
     zeros = rng.choice([[0], [128, 0]])
     before, after = b"".join(parts[:place]), b"".join(parts[place + 1:])
     kinds = {
@@ -334,7 +346,7 @@ def main():
         sys.exit("tests/settle.py needs target/bin/settle: rt check settle builds it")
     wanted = int(sys.argv[1]) if len(sys.argv) > 1 else 3000
     rng = random.Random(int(sys.argv[2]) if len(sys.argv) > 2 else 1)
-    kinds, numbers, kept, most = Counter(), Counter(), 0, 0
+    kinds, numbers, kept, most, unplugged = Counter(), Counter(), 0, 0, 0
     for kind, frame, check in runs(rng, wanted):
         try:
             number, steps = check(frame)
@@ -345,11 +357,12 @@ def main():
         numbers[number] += 1
         kept += steps == 0
         most = max(most, steps or 0)
+        unplugged += number == 0 and bool(reference.unplugged_links(reference.job_of(frame)))
     for kind, times in kinds.items():
         print(f"{times:6} {kind}")
     refusals = ", ".join(f"{numbers[number]} refused {number}" for number in range(1, 7))
     print(f"{kinds.total()} frames: {numbers[0]} accepted, {refusals}, {numbers['too long']} too long")
-    print(f"accepted: {kept} of no steps, {numbers[0] - kept} of up to {most} steps")
+    print(f"accepted: {kept} of no steps, {numbers[0] - kept} of up to {most} steps; {unplugged} with unplugged links")
     print("OK")
     return 0
 

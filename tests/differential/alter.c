@@ -77,6 +77,43 @@ static void costs_level(const struct given *given, struct answer *answer)
     answer->steps = (uint32_t)deviation(given->job, answer->cost);
 }
 
+/* One unplugged edge moved by a step, which is counted. */
+static void unplugged_moved(const struct given *given, struct answer *answer)
+{
+    size_t edges = given->job->edges, start = pick((uint32_t)edges), i = 0;
+
+    while (i < edges && given->job->edge[(start + i) % edges].mark != UNPLUGGED)
+        i++;
+    if (i == edges)
+        return;
+    int32_t *cost = &answer->cost[(start + i) % edges];
+    *cost += *cost == 0 || (*cost < COST_MOST && pick(2) == 0) ? 1 : -1;
+    answer->steps++;
+}
+
+static void unplugged_lowest(const struct given *given, struct answer *answer)
+{
+    for (size_t e = 0; e < given->job->edges; e++)
+        if (given->job->edge[e].mark == UNPLUGGED)
+            answer->cost[e] = 0;
+    answer->steps = (uint32_t)deviation(given->job, answer->cost);
+}
+
+/* The answer to the job with all edges plugged. */
+static void all_plugged(const struct given *given, struct answer *answer)
+{
+    static struct job plugged;
+    static struct solution solution;
+
+    plugged = *given->job;
+    for (size_t e = 0; e < plugged.edges; e++)
+        plugged.edge[e].mark %= UNPLUGGED;
+    solve(&plugged, &solution);
+    answer->steps = solution.steps;
+    memcpy(answer->cost, solution.low, sizeof answer->cost);
+    answer->matching = solution.matching;
+}
+
 /* Pairs. */
 
 static void pairs_other(const struct given *given, struct answer *answer)
@@ -213,17 +250,17 @@ static void insert_pair(struct matching *matching, struct pair pair)
     matching->pair[i] = pair;
 }
 
-/* A pair of a free tree edge and a free spare, of the same old cost if there are such: the weight stays. */
+/* A pair of a free tree edge and another free edge, of the same old cost if there are such: the weight stays. */
 static void pair_added(const struct given *given, struct answer *answer)
 {
     const struct job *job = given->job;
     struct pair added = {NONE, NONE};
 
     for (uint32_t t = 0; t < job->edges; t++) {
-        if (job->edge[t].mark == 0 || is_paired(&answer->matching, t))
+        if (job->edge[t].mark != TREE || is_paired(&answer->matching, t))
             continue;
         for (uint32_t s = 0; s < job->edges; s++) {
-            if (job->edge[s].mark == 1 || is_paired(&answer->matching, s))
+            if (job->edge[s].mark == TREE || is_paired(&answer->matching, s))
                 continue;
             if (added.tree == NONE || (job->edge[t].cost == job->edge[s].cost && pick(2) == 0))
                 added = (struct pair){t, s};
@@ -240,6 +277,7 @@ static change *const changes[] = {
     costs_highest, costs_between, costs_old,       costs_old_alone, costs_level,          pairs_other,
     pairs_and_costs_other, pairs_none, pair_dropped, pairs_exchanged, spares_exchanged,   spare_like,
     tree_like,     pair_turned,   pair_long,       pair_past,     pairs_twice,            pair_added,
+    unplugged_moved, unplugged_lowest, all_plugged,
 };
 
 /* Bytes. */

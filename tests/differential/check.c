@@ -212,6 +212,7 @@ static void count_frame(void)
     if (refusal != 0)
         return;
     counts.with_steps += solution.steps > 0;
+    counts.with_unplugged += has_unplugged(&job);
     counts.steps_most = solution.steps > counts.steps_most ? solution.steps : counts.steps_most;
     counts.answer_longest = given.length > counts.answer_longest ? given.length : counts.answer_longest;
 }

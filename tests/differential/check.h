@@ -5,7 +5,7 @@
 #include "reference.h"
 
 struct counts {
-    size_t frames, refused[7], with_steps, cheapest, steps_most, answer_longest;
+    size_t frames, refused[7], with_steps, cheapest, with_unplugged, steps_most, answer_longest;
     size_t searched, offers_yes, offers_no, finds, lists, lists_refused[7], list_calls, reads;
     /* Costs and sheets tried: done, refused by 8 (`leaving`: for a cost that leaves its range), or refused with the job. */
     size_t sheets_made, sheet_longest, costs_refused, sheets_applied, sheets_refused, sheets_leaving, moves_refused;

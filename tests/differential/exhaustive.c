@@ -26,12 +26,12 @@ static bool joins_all(const struct job *job, uint32_t set)
     return true;
 }
 
-static uint32_t marked_set(const struct job *job)
+static uint32_t marked_set(const struct job *job, uint32_t mark)
 {
     uint32_t set = 0;
 
     for (size_t e = 0; e < job->edges; e++)
-        set |= job->edge[e].mark << e;
+        set |= (uint32_t)(job->edge[e].mark == mark) << e;
     return set;
 }
 
@@ -46,9 +46,11 @@ static uint32_t size_of_set(uint32_t set)
 
 void find_trees(const struct job *job, struct trees *trees)
 {
+    uint32_t unplugged = marked_set(job, UNPLUGGED);
+
     trees->count = 0;
     for (uint32_t set = 0; set < (uint32_t)1 << job->edges; set++)
-        if (size_of_set(set) == job->nodes - 1 && joins_all(job, set))
+        if ((set & unplugged) == 0 && size_of_set(set) == job->nodes - 1 && joins_all(job, set))
             trees->set[trees->count++] = set;
 }
 
@@ -63,7 +65,7 @@ static int64_t total(const struct job *job, uint32_t set, const int32_t *cost)
 
 bool is_cheapest_of(const struct job *job, const struct trees *trees, const int32_t *cost)
 {
-    int64_t marked = total(job, marked_set(job), cost);
+    int64_t marked = total(job, marked_set(job, TREE), cost);
 
     for (size_t i = 0; i < trees->count; i++)
         if (total(job, trees->set[i], cost) < marked)
@@ -122,7 +124,7 @@ static bool covers(const struct job *job, size_t spare, size_t tree)
 {
     uint32_t name[NODES_MOST];
 
-    name_parts(job, marked_set(job) & ~((uint32_t)1 << tree), name);
+    name_parts(job, marked_set(job, TREE) & ~((uint32_t)1 << tree), name);
     return name[job->edge[spare].end1] != name[job->edge[spare].end2];
 }
 
@@ -135,10 +137,12 @@ static void match(const struct job *job, size_t t, uint32_t used, struct matchin
         return;
     }
     match(job, t + 1, used, some, search);
-    if (job->edge[t].mark == 0)
+    if (job->edge[t].mark != TREE)
         return;
     for (size_t s = 0; s < job->edges; s++) {
-        if (job->edge[s].mark == 1 || (used >> s & 1) == 1 || job->edge[s].cost >= job->edge[t].cost || !covers(job, s, t))
+        if (job->edge[s].mark != SPARE || (used >> s & 1) == 1)
+            continue;
+        if (job->edge[s].cost >= job->edge[t].cost || !covers(job, s, t))
             continue;
         some->pair[some->pairs++] = (struct pair){(uint32_t)t, (uint32_t)s};
         match(job, t + 1, used | (uint32_t)1 << s, some, search);

@@ -1,5 +1,5 @@
-/* The same by trying everything, for jobs of few edges: all sets of edges, all choices of whole-number costs by rising
- * steps, negative ones among them, and all matchings. */
+/* The same by trying everything, for jobs of few edges: all sets of plugged edges, all choices of whole-number costs of all
+ * edges by rising steps, negative ones among them, and all matchings. */
 #ifndef EXHAUSTIVE_H
 #define EXHAUSTIVE_H
 

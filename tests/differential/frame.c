@@ -114,7 +114,7 @@ static bool ends_are_right(const struct job *job)
 static bool marks_are_right(const struct job *job)
 {
     for (size_t e = 0; e < job->edges; e++)
-        if (job->edge[e].mark > 1)
+        if (job->edge[e].mark >= MARKS)
             return false;
     return true;
 }

@@ -102,9 +102,9 @@ static uint32_t pick_cost(const struct cost_range *range, uint32_t mark)
     case LIMITS:
         return PICK_OF(0, 0, 1, range->top - 1, range->top, range->top);
     case FALLING:
-        return mark == 1 ? range->top - pick(range->top / 2 + 1) : pick(range->top / 2 + 1);
+        return mark == TREE ? range->top - pick(range->top / 2 + 1) : pick(range->top / 2 + 1);
     case TWO_COSTS:
-        return mark == 1 ? range->top : 0;
+        return mark == TREE ? range->top : 0;
     default:
         return range->base + pick(range->top + 1);
     }
@@ -156,22 +156,37 @@ static size_t pick_spares(size_t room, bool full)
     return full ? room : one > other ? one : other;
 }
 
+/* One in so many of the edges besides the tree is unplugged; none if it is 0. */
+static uint32_t pick_mark(uint32_t unplugged_in)
+{
+    return unplugged_in > 0 && pick(unplugged_in) == 0 ? UNPLUGGED : SPARE;
+}
+
+/* An unplugged edge has a cost to keep, not 0. */
+static uint32_t pick_other_cost(const struct cost_range *range, uint32_t mark)
+{
+    uint32_t cost = pick_cost(range, mark);
+
+    return mark == UNPLUGGED && cost == 0 ? 1 : cost;
+}
+
 void random_job(struct job *job, uint32_t nodes_most, size_t edges_most, bool full)
 {
     struct cost_range costs = pick_costs();
     enum tree_shape tree_shape = (enum tree_shape)pick(TREE_SHAPES);
     enum spare_shape spare_shape = (enum spare_shape)pick(SPARE_SHAPES);
+    uint32_t unplugged_in = PICK_OF(0, 0, 0, 2, 3, 4);
 
     job->nodes = full ? nodes_most : 1 + pick(nodes_most);
     job->edges = 0;
     for (uint32_t place = 1; place < job->nodes; place++)
-        job->edge[job->edges++] = (struct edge){parent_place(tree_shape, place), place, pick_cost(&costs, 1), 1};
+        job->edge[job->edges++] = (struct edge){parent_place(tree_shape, place), place, pick_cost(&costs, TREE), TREE};
     size_t spares = job->nodes == 1 ? 0 : pick_spares(edges_most - job->edges, full);
     for (; spares > 0; spares--) {
         struct edge *edge = &job->edge[job->edges];
         spare_ends(job, spare_shape == MIXED ? (enum spare_shape)pick(MIXED) : spare_shape, edge);
-        edge->cost = pick_cost(&costs, 0);
-        edge->mark = 0;
+        edge->mark = pick_mark(unplugged_in);
+        edge->cost = pick_other_cost(&costs, edge->mark);
         job->edges++;
     }
     order_edges(job);
@@ -186,11 +201,9 @@ static void each_edge(struct job *job, size_t e, job_visit *visit)
         visit(job);
         return;
     }
-    for (uint32_t choice = 0; choice < 4 * job->nodes * job->nodes; choice++) {
-        job->edge[e].mark = choice % 2;
-        job->edge[e].cost = choice / 2 % 2;
-        job->edge[e].end1 = choice / 4 % job->nodes;
-        job->edge[e].end2 = choice / 4 / job->nodes;
+    for (uint32_t choice = 0; choice < 2 * MARKS * job->nodes * job->nodes; choice++) {
+        uint32_t ends = choice / (2 * MARKS);
+        job->edge[e] = (struct edge){ends % job->nodes, ends / job->nodes, choice / MARKS % 2, choice % MARKS};
         each_edge(job, e + 1, visit);
     }
 }
@@ -238,10 +251,10 @@ static void damage_edge(struct job *job, struct edge *edge)
         *pick_end(edge) = pick(job->nodes);
         break;
     case 3:
-        edge->mark = PICK_OF(2, 3, 128, 129, 256, 257, long_number(edge->mark));
+        edge->mark = PICK_OF(3, 4, 128, 129, 130, 256, 257, 258, long_number(edge->mark));
         break;
     case 4:
-        edge->mark = 1 - edge->mark % 2;
+        edge->mark = (edge->mark + 1 + pick(2)) % MARKS;
         break;
     case 5:
         edge->cost = long_number(edge->cost);
@@ -302,7 +315,7 @@ static size_t odd_number(uint8_t *to, uint32_t value)
     case 1:
         return put_number(to, value + PICK_OF(16384, 65536, 1 << 21, 1 << 28));
     case 2:
-        return put_number(to, PICK_OF(0, 1, 2, 63, 64, 65, 127, 128, 255, 256, 257, 16383, 16384, COST_MOST, COST_MOST + 1));
+        return put_number(to, PICK_OF(0, 1, 2, 3, 63, 64, 65, 127, 128, 255, 256, 257, 16383, 16384, COST_MOST, COST_MOST + 1));
     default:
         return 0;
     }

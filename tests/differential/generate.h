@@ -14,9 +14,10 @@ uint32_t pick(uint32_t below);
 uint32_t pick_of(const uint32_t *value, size_t count);
 #define PICK_OF(...) \
     pick_of((const uint32_t[]){__VA_ARGS__}, sizeof((const uint32_t[]){__VA_ARGS__}) / sizeof(uint32_t))
-/* An accepted job of at most so many nodes and edges; `full`: of exactly so many. */
+/* An accepted job of at most so many nodes and edges; `full`: of exactly so many. In half of the jobs a quarter to a half of the
+ * edges besides the tree is unplugged. */
 void random_job(struct job *job, uint32_t nodes_most, size_t edges_most, bool full);
-/* All jobs of at most 3 nodes, 3 edges and costs 0 and 1, those that questions 4 and 6 refuse among them. */
+/* All jobs of at most 3 nodes, 3 edges, costs 0 and 1 and marks 0 to 2, those that questions 4 and 6 refuse among them. */
 void each_small_job(job_visit *visit);
 /* Makes one thing wrong, or at least different. */
 void damage_job(struct job *job);

@@ -54,19 +54,21 @@ static void check_rows(void)
 {
     uint8_t answer[ROW_ROOM];
 
+    thorough = true;
     for (size_t i = 0; i < ROWS; i++) {
         check_frame(frame, from_hex(rows[i].job, frame));
         expect_answer(rows[i].refusal, answer, from_hex(rows[i].answer, answer));
     }
     check_frame(frame, from_hex(thirteen, frame));
-    report("rows of document 01, and of numbers of three and four bytes");
+    thorough = false;
+    report("rows of document 01, of numbers of three and four bytes, and of unplugged links");
 }
 
-/* Two stations and links between them, of which the first is the tree. */
+/* Two stations and links between them: the first is the tree; every third from the second on is unplugged and cheapest. */
 static void fill_parallel(struct edge *edge, size_t count)
 {
     for (size_t e = 0; e < count; e++)
-        edge[e] = (struct edge){0, 1, e == 0 ? 5 : 4, e == 0};
+        edge[e] = e % 3 == 1 ? (struct edge){0, 1, 3, UNPLUGGED} : (struct edge){0, 1, e == 0 ? 5 : 4, e == 0 ? TREE : SPARE};
 }
 
 static void check_link_counts(void)
@@ -154,7 +156,7 @@ static void check_small_jobs(void)
     thorough = true;
     each_small_job(check_job);
     thorough = false;
-    report("jobs of at most 3 stations, 3 links, costs 0 to 1: all");
+    report("jobs of at most 3 stations, 3 links, costs 0 to 1, marks 0 to 2: all");
 }
 
 static void check_longest_jobs(void)
@@ -181,10 +183,10 @@ static void fill_longest_answer(uint32_t spare_cost)
     job.nodes = NODES_MOST;
     job.edges = EDGES_MOST;
     for (size_t e = 0; e < first_cheap; e++)
-        job.edge[e] = (struct edge){0, 1, COST_MOST, 0};
+        job.edge[e] = (struct edge){0, 1, COST_MOST, SPARE};
     for (uint32_t v = 0; v < trees; v++) {
-        job.edge[first_cheap + v] = (struct edge){v, v + 1, spare_cost, 0};
-        job.edge[first_tree + v] = (struct edge){v, v + 1, COST_MOST, 1};
+        job.edge[first_cheap + v] = (struct edge){v, v + 1, spare_cost, SPARE};
+        job.edge[first_tree + v] = (struct edge){v, v + 1, COST_MOST, TREE};
     }
 }
 
@@ -610,7 +612,8 @@ static void print_counts(void)
         printf(", %zu refused %d", counts.refused[number], number);
     printf("\naccepted: %zu with steps, up to %zu; %zu with the tree cheapest; ", counts.with_steps, counts.steps_most,
            counts.cheapest);
-    printf("longest answer %zu bytes; %zu searched whole\n", counts.answer_longest, counts.searched);
+    printf("%zu with unplugged links; longest answer %zu bytes; %zu searched whole\n", counts.with_unplugged,
+           counts.answer_longest, counts.searched);
     printf("%zu areas, %zu parts found, %zu answers judged yes, %zu judged no or refused\n", areas_tried, counts.finds,
            counts.offers_yes, counts.offers_no);
     printf("%zu frames read into arrays\n", counts.reads);

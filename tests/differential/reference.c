@@ -4,7 +4,8 @@
  * spare over a tree edge that is above is above too, and each edge that is above where its old cost is not, or the reverse,
  * takes one step between k and k + 1. The fewest such edges are a minimum cut, found as a matching of most pairs between
  * the tree edges that cost more than k and the spares that do not. The smallest minimum cuts give the lowest costs, the
- * largest the highest ones. Only levels that are old costs need be looked at: nothing changes between two of them.
+ * largest the highest ones. Only levels that are old costs need be looked at: nothing changes between two of them. An unplugged
+ * edge has no cover, so that no cut moves it.
  *
  * The matching: of greatest weight by best alternating paths in the table of weights, found as Bellman and Ford do. */
 #include <string.h>
@@ -39,7 +40,7 @@ bool is_spanning(const struct job *job)
     for (uint32_t v = 0; v < job->nodes; v++)
         up[v] = v;
     for (size_t e = 0; e < job->edges; e++) {
-        if (job->edge[e].mark == 0)
+        if (job->edge[e].mark != TREE)
             continue;
         uint32_t root1 = root_of(up, job->edge[e].end1), root2 = root_of(up, job->edge[e].end2);
         trees++;
@@ -47,6 +48,14 @@ bool is_spanning(const struct job *job)
         up[root1] = root2;
     }
     return trees == job->nodes - 1 && parts == 1;
+}
+
+bool has_unplugged(const struct job *job)
+{
+    for (size_t e = 0; e < job->edges; e++)
+        if (job->edge[e].mark == UNPLUGGED)
+            return true;
+    return false;
 }
 
 void old_costs(const struct job *job, int32_t *cost)
@@ -80,14 +89,18 @@ int64_t weight(const struct job *job, const struct matching *matching)
     return sum;
 }
 
-/* The cheapest edge between a reached node and another. */
+/* The cheapest plugged edge between a reached node and another. */
 static size_t next_edge(const struct job *job, const int32_t *cost, const bool *reached)
 {
     size_t best = NONE;
 
-    for (size_t e = 0; e < job->edges; e++)
-        if (reached[job->edge[e].end1] != reached[job->edge[e].end2] && (best == NONE || cost[e] < cost[best]))
+    for (size_t e = 0; e < job->edges; e++) {
+        const struct edge *edge = &job->edge[e];
+        if (edge->mark == UNPLUGGED || reached[edge->end1] == reached[edge->end2])
+            continue;
+        if (best == NONE || cost[e] < cost[best])
             best = e;
+    }
     return best;
 }
 
@@ -103,7 +116,7 @@ bool is_cheapest(const struct job *job, const int32_t *cost)
         reached[job->edge[e].end1] = reached[job->edge[e].end2] = true;
     }
     for (size_t e = 0; e < job->edges; e++)
-        marked += job->edge[e].mark == 1 ? cost[e] : 0;
+        marked += job->edge[e].mark == TREE ? cost[e] : 0;
     return marked == smallest;
 }
 
@@ -126,7 +139,7 @@ static void root_tree(const struct job *job, struct rooted_tree *tree)
         more = false;
         for (size_t e = 0; e < job->edges; e++) {
             const struct edge *edge = &job->edge[e];
-            if (edge->mark == 1 && (place(tree, edge->end1, edge->end2, e) || place(tree, edge->end2, edge->end1, e)))
+            if (edge->mark == TREE && (place(tree, edge->end1, edge->end2, e) || place(tree, edge->end2, edge->end1, e)))
                 more = true;
         }
     }
@@ -153,7 +166,7 @@ static void find_covers(const struct job *job, struct covers *covers)
     root_tree(job, &tree);
     memset(covers->count, 0, job->edges * sizeof covers->count[0]);
     for (size_t s = 0; s < job->edges; s++) {
-        if (job->edge[s].mark == 1)
+        if (job->edge[s].mark != SPARE)
             continue;
         covers->count[s] = tree_path(&tree, &job->edge[s], covers->edge[s]);
         for (size_t i = 0; i < covers->count[s]; i++) {
@@ -173,7 +186,7 @@ struct level {
 
 static bool is_tree(const struct level *level, size_t e)
 {
-    return level->job->edge[e].mark == 1;
+    return level->job->edge[e].mark == TREE;
 }
 
 static bool was_above(const struct level *level, size_t e)
@@ -350,16 +363,16 @@ static bool augment(const struct job *job, const struct covers *covers, size_t *
     for (size_t e = 0; e < job->edges; e++)
         gains.gain[e] = INT64_MIN;
     for (size_t t = 0; t < job->edges; t++)
-        if (job->edge[t].mark == 1 && mate[t] == NONE)
+        if (job->edge[t].mark == TREE && mate[t] == NONE)
             offer(job, covers, &gains, t, 0);
     for (bool more = true; more;) {
         more = false;
         for (size_t s = 0; s < job->edges; s++)
-            if (job->edge[s].mark == 0 && mate[s] != NONE && gains.gain[s] != INT64_MIN)
+            if (job->edge[s].mark == SPARE && mate[s] != NONE && gains.gain[s] != INT64_MIN)
                 more |= offer(job, covers, &gains, mate[s], gains.gain[s] - pair_weight(job, mate[s], s));
     }
     for (size_t s = 0; s < job->edges; s++)
-        if (job->edge[s].mark == 0 && mate[s] == NONE && gains.gain[s] > (best == NONE ? 0 : gains.gain[best]))
+        if (job->edge[s].mark == SPARE && mate[s] == NONE && gains.gain[s] > (best == NONE ? 0 : gains.gain[best]))
             best = s;
     flip(mate, gains.from, best);
     return best != NONE;
@@ -375,7 +388,7 @@ static void solve_matching(const struct job *job, const struct covers *covers, s
         continue;
     matching->pairs = 0;
     for (size_t t = 0; t < job->edges; t++)
-        if (job->edge[t].mark == 1 && mate[t] != NONE)
+        if (job->edge[t].mark == TREE && mate[t] != NONE)
             matching->pair[matching->pairs++] = (struct pair){(uint32_t)t, (uint32_t)mate[t]};
 }
 
@@ -410,7 +423,7 @@ static bool is_matching(const struct job *job, const struct matching *matching)
         struct pair pair = matching->pair[i];
         if (pair.tree >= job->edges || pair.spare >= job->edges)
             return false;
-        if (job->edge[pair.tree].mark != 1 || job->edge[pair.spare].mark != 0)
+        if (job->edge[pair.tree].mark != TREE || job->edge[pair.spare].mark != SPARE)
             return false;
         if (used[pair.spare] || (i > 0 && pair.tree <= matching->pair[i - 1].tree))
             return false;

@@ -1,7 +1,7 @@
-/* A second implementation of document 01 and of requests A.1 and A.2, to hold the library against; sheets.h has the step
- * sheets. It shares no code with it and finds the answers another way: frames are read by a state machine, question 6 is
- * union-find, the tree is judged by Prim's algorithm, paths are walked up parent pointers, and steps and costs come from one
- * minimum cut for every level of cost. */
+/* A second implementation of docs/FRAMES.md, to hold the library against; sheets.h has the step sheets. It shares no code with
+ * it and finds the answers another way: frames are read by a state machine, question 6 is union-find, the tree is judged by
+ * Prim's algorithm, paths are walked up parent pointers, and steps and costs come from one minimum cut for every level of
+ * cost. */
 #ifndef REFERENCE_H
 #define REFERENCE_H
 
@@ -21,6 +21,9 @@ enum {
     ANSWER_ROOM = 4096,
     NONE = EDGES_MOST
 };
+
+/* The marks. An unplugged edge is in no tree and in no pair, lies over nothing and keeps its cost. */
+enum { SPARE, TREE, UNPLUGGED, MARKS };
 
 /* The numbers of a frame. Those past NUMBERS_MOST are only counted: no accepted job and no right answer has them. No right
  * answer has more than PAIRS_MOST pairs either; there is room for some wrong ones. */
@@ -79,6 +82,7 @@ bool read_answer(const struct job *job, const struct numbers *numbers, struct an
 
 /* reference.c, all of an accepted job but the first. */
 bool is_spanning(const struct job *job);
+bool has_unplugged(const struct job *job);
 bool is_cheapest(const struct job *job, const int32_t *cost);
 uint64_t deviation(const struct job *job, const int32_t *cost);
 int64_t weight(const struct job *job, const struct matching *matching);

@@ -9,6 +9,8 @@
 #define JOB_16383 "02 01 00 01 FF 7F 01"
 #define JOB_HIGHEST "02 01 00 01 FF FF 7F 01"
 #define JOB_BARE "01 00"
+/* A tree link and a cheaper one beside it, unplugged. */
+#define JOB_UNPLUGGED "02 02 00 01 05 01 00 01 03 02"
 
 const struct row rows[ROWS] = {
     {"T1", JOB_T1, 0, "03 04 04 04 01 00 02"},
@@ -18,7 +20,7 @@ const struct row rows[ROWS] = {
     {"T5", JOB_16383, 0, "00 FF 7F 00"},
     {"T6", "80 00", 1, ""},
     {"T7", "", 2, ""},
-    {"T8", "02 01 00 00 05 02", 4, ""},
+    {"T8", "02 01 00 00 05 03", 4, ""},
     {"T9", "40 00", 6, ""},
     {"65 stations", "41 00", 2, ""},
     {"no station", "00 00", 2, ""},
@@ -40,6 +42,15 @@ const struct row rows[ROWS] = {
      "80 80 80 01 00 00 00 00 02 00 01 02 03"},
     {"links missing", "01 01", 3, ""},
     {"257 links", "02 81 02", 2, ""},
+    {"unplugged", JOB_UNPLUGGED, 0, "00 05 03 00"},
+    {"T1 and unplugged", "03 04 00 01 05 01 01 02 04 01 00 02 01 02 00 02 02 00", 0, "03 04 04 01 04 01 00 03"},
+    {"unplugged, highest cost", "02 02 00 01 FF FF 7F 02 00 01 FF FF 7F 01", 0, "00 FF FF 7F FF FF 7F 00"},
+    {"unplugged, equal ends", "02 02 00 01 05 01 00 00 03 02", 4, ""},
+    {"unplugged, second end 2 of 2", "02 02 00 01 05 01 00 02 03 02", 4, ""},
+    {"mark 3", "02 02 00 01 05 01 00 01 03 03", 5, ""},
+    {"mark 65,538", "02 02 00 01 05 01 00 01 03 82 80 04", 5, ""},
+    {"the tree unplugged", "02 01 00 01 05 02", 6, ""},
+    {"joined by an unplugged link", "03 02 00 01 05 01 01 02 05 02", 6, ""},
 };
 
 const struct sheet_row sheet_rows[SHEET_ROWS] = {
@@ -70,6 +81,8 @@ const struct sheet_row sheet_rows[SHEET_ROWS] = {
     {"cost 4 in two bytes", JOB_T1, NULL, "84 00 04 04"},
     {"a cost of four bytes", JOB_T1, NULL, "04 04 80 80 80 01"},
     {"a cost of no link", JOB_BARE, NULL, "00"},
+    {"an unplugged link moved", JOB_UNPLUGGED, "01 01 02", "05 04"},
+    {"an unplugged link down past 0", JOB_UNPLUGGED, "01 01 07", NULL},
 };
 
 const char thirteen[] = "03 04 00 01 09 01 01 02 08 01 00 02 01 00 00 02 03 00";

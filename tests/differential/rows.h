@@ -1,12 +1,12 @@
-/* The bench rows of document 01, and rows with numbers of three and four bytes: a job frame with its answer frame or its
- * refusal. Rows of step sheets: a job frame with a sheet and the costs that it leads to. */
+/* The bench rows of document 01, and rows with numbers of three and four bytes and with unplugged links: a job frame with its
+ * answer frame or its refusal. Rows of step sheets: a job frame with a sheet and the costs that it leads to. */
 #ifndef ROWS_H
 #define ROWS_H
 
 #include <stddef.h>
 #include <stdint.h>
 
-enum { ROW_ROOM = 64, ROWS = 28, SHEET_ROWS = 27 };
+enum { ROW_ROOM = 64, ROWS = 37, SHEET_ROWS = 29 };
 
 struct row {
     const char *name, *job;

@@ -14,7 +14,7 @@ static struct job job;
 static struct solution solution;
 static struct search search;
 static struct trees trees;
-static size_t jobs_searched, jobs_proved, choices_judged, lists_judged, sheets_applied;
+static size_t jobs_searched, jobs_proved, jobs_unplugged, choices_judged, lists_judged, sheets_applied;
 
 static void require(bool holds, const char *what)
 {
@@ -123,6 +123,26 @@ static void check_by_search(void)
     jobs_searched++;
 }
 
+/* Unplugged edges keep their costs; an answer that moves one by a step, and counts it, is judged no. */
+static void check_unplugged(void)
+{
+    static struct answer answer;
+
+    answer.steps = solution.steps + 1;
+    memcpy(answer.cost, solution.low, sizeof answer.cost);
+    answer.matching = solution.matching;
+    for (size_t e = 0; e < job.edges; e++) {
+        int32_t old = (int32_t)job.edge[e].cost;
+        if (job.edge[e].mark != UNPLUGGED)
+            continue;
+        require(solution.low[e] == old && solution.high[e] == old, "the cost of an unplugged edge");
+        answer.cost[e] = old == COST_MOST ? old - 1 : old + 1;
+        require(!judged_yes(&answer), "the judge of answers says no where an unplugged edge moves");
+        answer.cost[e] = old;
+    }
+    jobs_unplugged += has_unplugged(&job);
+}
+
 /* The matching proves the costs best: its weight is their steps. */
 static void check_by_proof(void)
 {
@@ -184,6 +204,7 @@ static void check_job(void)
     check_sheet();
     solve(&job, &solution);
     check_by_proof();
+    check_unplugged();
     if (job.edges <= 6 && solution.steps <= 4)
         check_by_search();
 }
@@ -299,7 +320,8 @@ int main(int argc, char **argv)
         random_job(&job, large ? 64 : 5, large ? 256 : 6 + pick(6), large && pick(2) == 0);
         check_job();
     }
-    printf("selftest: %zu jobs proved by their matching, %zu of them searched whole, ", jobs_proved, jobs_searched);
+    printf("selftest: %zu jobs proved by their matching, %zu of them searched whole, %zu with unplugged links, ", jobs_proved,
+           jobs_searched, jobs_unplugged);
     printf("%zu costs and %zu lists of pairs judged, %zu sheets applied\n", choices_judged, lists_judged, sheets_applied);
     return 0;
 }

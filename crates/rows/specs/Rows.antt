@@ -1,4 +1,5 @@
--- The bench rows T1 to T9: the model gives each job of the table its result. Assumes nothing.
+-- The bench rows T1 to T9, and one of a link that is not plugged: the model gives each job of the table its result.
+-- Assumes nothing.
 use Prim.Native.Nat.{ℕ}
 use mathlib.Core.Path.{_≡_, refl}
 use mathlib.Core.List.{List, [], _∷_, map, flatMap}
@@ -42,8 +43,9 @@ rows =
     row (0x02 ∷ 0x01 ∷ 0x00 ∷ 0x01 ∷ 0xFF ∷ 0x7F ∷ 0x01 ∷ []) (frame (0x00 ∷ 0xFF ∷ 0x7F ∷ 0x00 ∷ [])) ∷
     row (0x80 ∷ 0x00 ∷ []) (refused 1) ∷
     row [] (refused 2) ∷
-    row (0x02 ∷ 0x01 ∷ 0x00 ∷ 0x00 ∷ 0x05 ∷ 0x02 ∷ []) (refused 4) ∷
+    row (0x02 ∷ 0x01 ∷ 0x00 ∷ 0x00 ∷ 0x05 ∷ 0x03 ∷ []) (refused 4) ∷
     row (0x40 ∷ 0x00 ∷ []) (refused 6) ∷
+    row (0x02 ∷ 0x02 ∷ 0x00 ∷ 0x01 ∷ 0x05 ∷ 0x01 ∷ 0x00 ∷ 0x01 ∷ 0x03 ∷ 0x02 ∷ []) (frame (0x00 ∷ 0x05 ∷ 0x03 ∷ 0x00 ∷ [])) ∷
     []
 
 pub rows-hold : map (λ (r : Row). resultOf (r .job)) rows ≡ map (λ (r : Row). r .result) rows

@@ -227,6 +227,12 @@ fn refusals() {
     show_refusal(b"256 links, all missing", b"\x02\x80\x02");
     show_refusal(b"an end of 16384", b"\x02\x01\x00\x80\x80\x01\x05\x01");
     show_refusal(b"a mark of 16384", b"\x02\x01\x00\x01\x05\x80\x80\x01");
+    show_refusal(b"a mark of 3", b"\x02\x01\x00\x01\x05\x03");
+    show_refusal(
+        b"an unplugged link to its own station",
+        b"\x02\x01\x00\x00\x05\x02",
+    );
+    show_refusal(b"no link plugged", b"\x02\x01\x00\x01\x05\x02");
 }
 
 fn answers(t1: &[u8]) {
@@ -300,6 +306,25 @@ fn applied(t1: &[u8]) {
     show_applied(b"no sheet", t1, b"");
     show_applied(b"80 00", t1, b"\x80\x00");
     show_applied(b"no link", b"\x01\x00", b"\x00");
+}
+
+// Two stations, a tree link of cost 5 and a link of cost 3 that is laid but not plugged.
+fn unplugged() {
+    let job = b"\x02\x02\x00\x01\x05\x01\x00\x01\x03\x02";
+    let mut area = [170u8; 5];
+    show_answer(b"an unplugged link, cheaper", job, &mut area);
+    show_verdict(b"its tree", judging::judge(job));
+    show_verdict(
+        b"the unplugged link moved",
+        judging::judge_answer(job, b"\x01\x05\x04\x00"),
+    );
+    show_verdict(
+        b"the unplugged link paired",
+        judging::judge_answer(job, b"\x02\x03\x03\x01\x00\x01"),
+    );
+    show_part(b"the unplugged link", finding::find_link(job, Edge(1)));
+    show_read(b"its job read", job);
+    show_sheet(b"sheet that moves it", job, b"\x05\x04");
 }
 
 fn stars() {
@@ -444,6 +469,7 @@ fn main() {
     );
     sheets(t1);
     applied(t1);
+    unplugged();
     trees();
     longest();
 }
