@@ -117,6 +117,9 @@ fn main() {
         Link { end1: 0, end2: 2, cost: 2, mark: 0 },
     ];
     println!("cheapest before: {:?}", judge(3, &links));
+    links[2].mark = 2;
+    println!("with link 2 unplugged: {:?}", judge(3, &links));
+    links[2].mark = 0;
 
     let job = write_job(3, &links).expect("an accepted job");
     let frame = answer(3, &links).expect("an accepted job");
@@ -129,6 +132,6 @@ fn main() {
     }
     println!("cheapest after: {:?}", judge(3, &links));
 
-    links[2].mark = 2;
-    println!("with a mark of 2: {:?}", judge(3, &links));
+    links[2].mark = 3;
+    println!("with a mark of 3: {:?}", judge(3, &links));
 }

@@ -11,7 +11,7 @@
  * - a pointer is never null, not even for an empty vector: there pass any aligned pointer that is not null, as that of an array
  *   of one element, with length 0;
  * - enough stack. Measured on x86-64 (bench/stack), rounded up to the next 100 bytes:
- *     ist_answer        16,000    ist_answer_list        20,100
+ *     ist_answer        15,000    ist_answer_list        19,100
  *     ist_judge          8,100    ist_judge_list         16,300
  *     ist_judge_answer   8,200    ist_judge_answer_list  16,300
  *     ist_find_link      6,600    ist_find_cost_list     16,400
@@ -47,7 +47,7 @@ extern "C" {
 #define IST_REFUSED_LENGTH 3
 /* a link's ends are not below the station count and different; */
 #define IST_REFUSED_ENDS 4
-/* a mark is neither 0 nor 1; */
+/* a mark is not 0, 1 or 2; */
 #define IST_REFUSED_MARK 5
 /* the marked links are no spanning tree; */
 #define IST_REFUSED_TREE 6
@@ -102,7 +102,7 @@ int32_t ist_sheet(const uint8_t *job, size_t job_len, const uint8_t *costs, size
 int32_t ist_apply_sheet(const uint8_t *job, size_t job_len, const uint8_t *sheet, size_t sheet_len, uint8_t *area,
                         size_t area_len, size_t *written);
 
-/* A link as a record: its two ends, its cost, its mark (1 tree, 0 spare). */
+/* A link as a record: its two ends, its cost, its mark (1 tree, 0 spare, 2 laid but not plugged). */
 typedef struct {
     uint32_t end1;
     uint32_t end2;

@@ -28,10 +28,11 @@ problem g tr c =
       spareCost = λ s. c (getD ss s 0);
     }
 
--- The labels by edge: each rank's label put at its edge, over the old costs. So an edge without a rank keeps its cost.
+-- The labels by edge: each rank's label put at its edge.
 abbrev pub place : List ℕ → (ℕ → ℕ) → (ℕ → ℕ) → ℕ → ℕ
 place ranks label f = scan (λ k f. put f (getD ranks k 0) (label k)) (length ranks) 0 f
 
+-- The new costs: both put over the old ones, so that an edge without a rank keeps its cost.
 abbrev pub newCosts : (ℕ → ℕ) → List ℕ → List ℕ → Labels → ℕ → ℕ
 newCosts c ts ss l = place ss (l .spareLabel) (place ts (l .treeLabel) c)
 
