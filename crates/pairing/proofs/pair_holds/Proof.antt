@@ -14,6 +14,13 @@ held t =
     let a = t .args in
     arrays (a .end1 .now) (a .end2 .now) (a .cost .now) (a .mark .now) (a .ts .now) (a .mask .now)
 
+-- the steps, from the test of the spare back to the start
+abbrev tree-of : tie.After-is-spare → tie.After-is-tree
+tree-of n = n .before .before .before .before
+
+abbrev start-of : tie.After-is-tree → tie.Start
+start-of m = m .before .before .before .before .before
+
 cast-tree : tie.Need-cast-tree
 cast-tree c = search needs
 
@@ -39,20 +46,18 @@ is-tree-requires c κs = search needs
 returns-2 : tie.Need-returns-2
 returns-2 c =
     let m = c .before in
-    let e₁ = m .before .before in
-    let t = e₁ .before .before .before in
+    let t = start-of m in
     let a = t .args in
     sym (tree-unmarked (a .edges) (a .trees) (held t) (a .t .0) (a .s .0)
-    (m .is-tree .ensures) (e₁ .if1 .left) (not-true _ (c .if2 .taken)))
+    (m .is-tree .ensures) (m .before .before .if1 .left) (not-true _ (c .if2 .taken)))
 
 returns-3 : tie.Need-returns-3
 returns-3 c =
     let m = c .before .before in
-    let e₁ = m .before .before in
-    let t = e₁ .before .before .before in
+    let t = start-of m in
     let a = t .args in
     sym (spare-past (a .edges) (a .trees) (held t) (a .t .0) (a .s .0)
-    (m .is-tree .ensures) (e₁ .if1 .left) (not-false _ (c .before .if2 .left)) (c .if3 .taken))
+    (m .is-tree .ensures) (m .before .before .if1 .left) (not-false _ (c .before .if2 .left)) (c .if3 .taken))
 
 mul-is-spare : tie.Need-mul-is-spare
 mul-is-spare c = search needs
@@ -67,12 +72,11 @@ returns-4 : tie.Need-returns-4
 returns-4 c =
     let n = c .before in
     let e₃ = n .before .before in
-    let m = e₃ .before .before in
-    let e₁ = m .before .before in
-    let t = e₁ .before .before .before in
+    let m = tree-of n in
+    let t = start-of m in
     let a = t .args in
     sym (spare-other (a .edges) (a .trees) (held t) (a .t .0) (a .s .0)
-    (m .is-tree .ensures) (e₁ .if1 .left) (not-false _ (e₃ .before .if2 .left))
+    (m .is-tree .ensures) (m .before .before .if1 .left) (not-false _ (e₃ .before .if2 .left))
     (n .is-spare .ensures) (e₃ .if3 .left) (not-true _ (c .if4 .taken)))
 
 rank-of-requires : tie.Need-rank-of-requires
@@ -93,9 +97,8 @@ element-copy-out-b c = search needs
 covers-requires : tie.Need-covers-requires
 covers-requires c κs =
     let e₄ = c .before .before .before in
-    let e₃ = e₄ .before .before .before in
-    let s = e₃ .before .before .before .before .before .before .before in
-    let link = e₃ .if3 .left in
+    let s = start-of (tree-of (e₄ .before)) in
+    let link = e₄ .before .before .before .if3 .left in
     omega (arith, s .pre .first (s .args .s .0) link, s .pre .second (s .args .s .0) link, c .before .before .rank-of .ensures .1)
 
 returns-5 : tie.Need-returns-5
@@ -104,12 +107,11 @@ returns-5 c =
     let e₄ = k .before in
     let n = e₄ .before in
     let e₃ = n .before .before in
-    let m = e₃ .before .before in
-    let e₁ = m .before .before in
-    let t = e₁ .before .before .before in
+    let m = tree-of n in
+    let t = start-of m in
     let a = t .args in
     sym (spare-apart (a .edges) (a .trees) (held t) (a .t .0) (a .s .0)
-    (m .is-tree .ensures) (e₁ .if1 .left) (not-false _ (e₃ .before .if2 .left))
+    (m .is-tree .ensures) (m .before .before .if1 .left) (not-false _ (e₃ .before .if2 .left))
     (n .is-spare .ensures) (e₃ .if3 .left) (not-false _ (e₄ .if4 .left))
     (k .rank-of .result .0) (k .rank-of .ensures .0) (c .before .covers .result) (c .before .covers .ensures) (not-true _ (c .if5 .taken)))
 
@@ -132,12 +134,11 @@ returns-6 c =
     let e₄ = k .before in
     let n = e₄ .before in
     let e₃ = n .before .before in
-    let m = e₃ .before .before in
-    let e₁ = m .before .before in
-    let t = e₁ .before .before .before in
+    let m = tree-of n in
+    let t = start-of m in
     let a = t .args in
     pair-dearer (a .edges) (a .trees) (held t) (a .t .0) (a .s .0)
-    (m .is-tree .ensures) (e₁ .if1 .left) (not-false _ (e₃ .before .if2 .left))
+    (m .is-tree .ensures) (m .before .before .if1 .left) (not-false _ (e₃ .before .if2 .left))
     (n .is-spare .ensures) (e₃ .if3 .left) (not-false _ (e₄ .if4 .left))
     (k .rank-of .result .0) (k .rank-of .ensures .0) (e₅ .before .covers .result) (e₅ .before .covers .ensures) (not-false _ (e₅ .if5 .left))
 
