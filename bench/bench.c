@@ -1,5 +1,7 @@
 /* Measures the library, the plain C version and LEMON on a file of jobs: each frame is preceded by its length in four bytes,
- * lowest first. Usage: bench check|time|library|plain|sheets|stack FILE */
+ * lowest first. Usage: bench check|time|library|plain|sheets|stack FILE
+ * The library and plain C on a file of logs, which has a job frame, its packet log, the next job and so on, in the same way.
+ * Usage: bench replay-check|replay-time|replay-library|replay-plain FILE */
 #define _GNU_SOURCE
 #include "../include/ist.h"
 #include "lemon.h"
@@ -12,6 +14,7 @@
 #include <ucontext.h>
 
 typedef int32_t answer_function(const uint8_t *, size_t, uint8_t *, size_t, size_t *);
+typedef int32_t replay_function(const uint8_t *, size_t, const uint8_t *, size_t, uint8_t *, size_t, size_t *, size_t *);
 
 typedef struct {
     const uint8_t *bytes;
@@ -172,9 +175,58 @@ static void run_sheets(jobs all)
     }
 }
 
+/* Replays: each log in an area that is long enough and in one a byte too short, and without its last byte. */
+
+typedef struct {
+    uint8_t area[IST_COSTS_MOST];
+    size_t length, first;
+    int32_t refusal;
+} costs_reply;
+
+static costs_reply replay(replay_function *function, frame job, frame log, size_t area_length)
+{
+    costs_reply r = {.length = 0};
+    r.refusal = function(job.bytes, job.length, log.bytes, log.length, r.area, area_length, &r.length, &r.first);
+    return r;
+}
+
+static void check_replay(frame job, frame log, size_t area_length, int32_t refusal, size_t i)
+{
+    costs_reply library = replay(ist_replay, job, log, area_length), plain = replay(plain_replay, job, log, area_length);
+    if (library.refusal != refusal || plain.refusal != refusal)
+        fail("a log is not replayed, or not refused, as it should be", i);
+    if (library.length != plain.length || library.first != plain.first
+        || memcmp(library.area, plain.area, sizeof plain.area) != 0)
+        fail("library and plain C replay differently", i);
+}
+
+static size_t count_packets(jobs all)
+{
+    size_t numbers = 0;
+    for (size_t i = 1; i < all.count; i += 2)
+        for (size_t at = 0; at < all.frame[i].length; at++)
+            numbers += all.frame[i].bytes[at] < 128;
+    return numbers / 2;
+}
+
+/* Prints the packets, and after how many the first job's tree is cheapest, or never. */
+static void check_replays(jobs all)
+{
+    for (size_t i = 0; i + 1 < all.count; i += 2) {
+        frame job = all.frame[i], log = all.frame[i + 1];
+        size_t length = replay(plain_replay, job, log, IST_COSTS_MOST).length;
+        check_replay(job, log, IST_COSTS_MOST, IST_OK, i);
+        check_replay(job, log, length - 1, IST_REFUSED_AREA, i);
+        check_replay(job, (frame){log.bytes, log.length - 1}, IST_COSTS_MOST, IST_REFUSED_LOG, i);
+    }
+    size_t first = replay(plain_replay, all.frame[0], all.frame[1], IST_COSTS_MOST).first;
+    printf("%zu ", count_packets(all));
+    printf(first == IST_NEVER ? "never\n" : "%zu\n", first);
+}
+
 /* Time: rounds of each version in turn, in processor time. */
 
-enum { ROUNDS = 15 };
+enum { ROUNDS = 15, VERSIONS = 3 };
 static const double ROUND_SECONDS = 0.01; /* the least that a version runs in a round */
 
 typedef struct {
@@ -208,6 +260,22 @@ static void run_lemon(const workload *load)
         lemon_steps(&load->accepted[i]);
 }
 
+static void run_replays(replay_function *function, jobs all)
+{
+    for (size_t i = 0; i + 1 < all.count; i += 2)
+        replay(function, all.frame[i], all.frame[i + 1], IST_COSTS_MOST);
+}
+
+static void run_library_replays(const workload *load)
+{
+    run_replays(ist_replay, load->all);
+}
+
+static void run_plain_replays(const workload *load)
+{
+    run_replays(plain_replay, load->all);
+}
+
 static double seconds(void)
 {
     struct timespec t;
@@ -235,10 +303,32 @@ static int compare(const void *a, const void *b)
     return (x > y) - (x < y);
 }
 
-static double median(double *values)
+static double median(const double *values)
 {
-    qsort(values, ROUNDS, sizeof *values, compare);
-    return values[ROUNDS / 2];
+    double sorted[ROUNDS];
+    memcpy(sorted, values, sizeof sorted);
+    qsort(sorted, ROUNDS, sizeof *sorted, compare);
+    return sorted[ROUNDS / 2];
+}
+
+/* The median of each round's ratio. */
+static double median_ratio(const double *over, const double *under)
+{
+    double ratio[ROUNDS];
+    for (int round = 0; round < ROUNDS; round++)
+        ratio[round] = over[round] / under[round];
+    return median(ratio);
+}
+
+/* Fills in the seconds of each version in each round. */
+static void run_rounds(run_function *const *run, int versions, const workload *load, double (*time)[ROUNDS])
+{
+    unsigned times[VERSIONS];
+    for (int v = 0; v < versions; v++)
+        times[v] = times_for(run[v], load);
+    for (int round = 0; round < ROUNDS; round++)
+        for (int v = 0; v < versions; v++)
+            time[v][round] = run_seconds(run[v], load, times[v]);
 }
 
 static workload prepare(jobs all)
@@ -256,22 +346,23 @@ static void measure_time(jobs all)
 {
     workload load = prepare(all);
     run_function *run[] = {run_library, run_plain, run_lemon};
-    int versions = load.accepted ? 3 : 2;
-    double time[3][ROUNDS], to_plain[ROUNDS], of_lemon[ROUNDS];
-    unsigned times[3];
-    for (int v = 0; v < versions; v++)
-        times[v] = times_for(run[v], &load);
-    for (int round = 0; round < ROUNDS; round++) {
-        for (int v = 0; v < versions; v++)
-            time[v][round] = 1e6 * run_seconds(run[v], &load, times[v]) / (double)all.count;
-        to_plain[round] = time[0][round] / time[1][round];
-        of_lemon[round] = load.accepted ? time[2][round] / time[0][round] : 0;
-    }
-    printf("%f %f ", median(time[0]), median(time[1]));
+    double time[VERSIONS][ROUNDS], each = 1e6 / (double)all.count;
+    run_rounds(run, load.accepted ? 3 : 2, &load, time);
+    printf("%f %f ", each * median(time[0]), each * median(time[1]));
     if (load.accepted)
-        printf("%f %f %f\n", median(time[2]), median(to_plain), median(of_lemon));
+        printf("%f %f %f\n", each * median(time[2]), median_ratio(time[0], time[1]), median_ratio(time[2], time[0]));
     else
-        printf("- %f -\n", median(to_plain));
+        printf("- %f -\n", median_ratio(time[0], time[1]));
+}
+
+/* Prints packets a second of the library and of plain C, then library / plain C. */
+static void measure_replay_time(jobs all)
+{
+    workload load = {all, NULL};
+    run_function *run[] = {run_library_replays, run_plain_replays};
+    double time[VERSIONS][ROUNDS], packets = (double)count_packets(all);
+    run_rounds(run, 2, &load, time);
+    printf("%f %f %f\n", packets / median(time[0]), packets / median(time[1]), median_ratio(time[1], time[0]));
 }
 
 /* Stack: the call runs on a painted stack. */
@@ -325,7 +416,8 @@ static void measure_stack(jobs all)
 
 static int usage(void)
 {
-    fprintf(stderr, "usage: bench check|time|library|plain|sheets|stack FILE\n");
+    fprintf(stderr, "usage: bench check|time|library|plain|sheets|stack FILE\n"
+                    "       bench replay-check|replay-time|replay-library|replay-plain FILE\n");
     return 2;
 }
 
@@ -347,6 +439,14 @@ int main(int count, char **argument)
         run_sheets(all);
     else if (strcmp(mode, "stack") == 0)
         measure_stack(all);
+    else if (strcmp(mode, "replay-check") == 0)
+        check_replays(all);
+    else if (strcmp(mode, "replay-time") == 0)
+        measure_replay_time(all);
+    else if (strcmp(mode, "replay-library") == 0)
+        run_replays(ist_replay, all);
+    else if (strcmp(mode, "replay-plain") == 0)
+        run_replays(plain_replay, all);
     else
         return usage();
     return 0;

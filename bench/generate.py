@@ -2,8 +2,9 @@
 
 Run: python3 bench/generate.py DIR
 
-A file holds job frames one after another, each preceded by its length in four bytes, lowest first. A link is a list of
-two ends, cost and mark (1 tree, 0 spare, 2 unplugged).
+A file of jobs holds job frames one after another, each preceded by its length in four bytes, lowest first; a file of logs
+holds a job frame, its packet log, the next job and so on, in the same way. A link is a list of two ends, cost and mark (1
+tree, 0 spare, 2 unplugged); a packet is a link number and 1 for up or 0 for down.
 """
 import random
 import sys
@@ -33,7 +34,7 @@ def job_frame(nodes, links):
     return frame_of(numbers_of(nodes, links))
 
 
-def write_jobs(path, frames):
+def write_frames(path, frames):
     path.write_bytes(b"".join(len(frame).to_bytes(4, "little") + frame for frame in frames))
 
 
@@ -98,7 +99,7 @@ def full(rng):
     return job_frame(NODES, random_job(rng, NODES, EDGES))
 
 
-FULL_FOR_WIDE, FULL_FOR_UNPLUGGED = random.Random(full.__name__), random.Random(full.__name__)
+FULL_FOR_WIDE, FULL_FOR_UNPLUGGED, FULL_FOR_NEVER, FULL_FOR_EARLY = (random.Random(full.__name__) for _ in range(4))
 
 
 def wide(rng):
@@ -232,6 +233,50 @@ def damaged(rng):
     return rng.choice([refused1, refused2, refused3, refused4, refused5, refused6])(rng)
 
 
+# Packet logs: one packet of a tree link, the next of a spare, up or down.
+
+JOBS_WITH_LOGS, PACKETS = 5, 20000
+# Of `early`: tree links cost at most the first, spares at least the second, so that no log brings them together.
+TREES_BELOW, SPARES_ABOVE = 8000, 9000
+
+
+def numbered(links, mark):
+    return [e for e, link in enumerate(links) if link[3] == mark]
+
+
+def random_packets(rng, trees, spares, count):
+    return [(rng.choice(spares if i % 2 else trees), rng.randrange(2)) for i in range(count)]
+
+
+def log_frame(packets):
+    return frame_of([x for packet in packets for x in packet])
+
+
+def never(rng):
+    """To the next job of `full`, which is many thousand steps from its tree being cheapest."""
+    links = random_job(FULL_FOR_NEVER, NODES, EDGES)
+    packets = random_packets(rng, numbered(links, 1), numbered(links, 0), PACKETS)
+    return job_frame(NODES, links), log_frame(packets)
+
+
+def early(rng):
+    """To the next job of `full` with costs at which the tree is cheapest but for one spare, which is a step cheaper than the
+    tree link beside it; packet 100 raises it."""
+    links = random_job(FULL_FOR_EARLY, NODES, EDGES)
+    trees, spares = numbered(links, 1), numbered(links, 0)
+    for e in trees:
+        links[e][2] = rng.randint(1, TREES_BELOW)
+    for e in spares:
+        links[e][2] = rng.randint(SPARES_ABOVE, TWO_BYTES_MOST)
+    tree, spare = rng.choice(trees), rng.choice(spares)
+    links[spare] = links[tree][:2] + [links[tree][2] - 1, 0]
+    others = random_packets(rng, [e for e in trees if e != tree], [e for e in spares if e != spare], PACKETS - 1)
+    packets = others[:99] + [(spare, 1)] + others[99:]
+    return job_frame(NODES, links), log_frame(packets)
+
+
+LOGS = [never, early]
+
 FILES = [(tiny, 1000), (medium, 100), (full, 100), (wide, 100), (unplugged, 100), (adversarial, 100), (equal, 100),
          (twolevel, 100), (damaged, 1000)]
 
@@ -241,7 +286,10 @@ def main():
     folder.mkdir(parents=True, exist_ok=True)
     for kind, count in FILES:
         rng = random.Random(kind.__name__)
-        write_jobs(folder / f"{kind.__name__}.jobs", [kind(rng) for _ in range(count)])
+        write_frames(folder / f"{kind.__name__}.jobs", [kind(rng) for _ in range(count)])
+    for kind in LOGS:
+        rng = random.Random(kind.__name__)
+        write_frames(folder / f"{kind.__name__}.logs", [frame for _ in range(JOBS_WITH_LOGS) for frame in kind(rng)])
 
 
 main()

@@ -37,6 +37,10 @@ int plain_accept(const uint8_t *frame, size_t length, plain_job *job);
 /* What ist_answer does. */
 int32_t plain_answer(const uint8_t *frame, size_t length, uint8_t *area, size_t area_length, size_t *written);
 
+/* What ist_replay does. */
+int32_t plain_replay(const uint8_t *frame, size_t length, const uint8_t *log, size_t log_length, uint8_t *area,
+                     size_t area_length, size_t *written, size_t *first);
+
 #ifdef __cplusplus
 }
 #endif

@@ -8,16 +8,18 @@
 #include <string.h>
 #include <ucontext.h>
 
-enum { STACK = 1 << 18, PAINT = 0xA5, LINKS = 256, PAIRS = 64, FRAME = 1 << 20 };
+enum { STACK = 1 << 18, PAINT = 0xA5, LINKS = 256, PAIRS = 64, FRAME = 1 << 20, PACKETS = 6 * LINKS };
 
 static uint8_t stack[STACK];
 static ucontext_t caller;
 
 /* What every call is given, and where it writes. */
-static uint8_t job[FRAME], answer[IST_ANSWER_MOST], new_costs[IST_COSTS_MOST], sheet[IST_SHEET_MOST], area[IST_JOB_MOST];
+static uint8_t job[FRAME], answer[IST_ANSWER_MOST], new_costs[IST_COSTS_MOST], sheet[IST_SHEET_MOST], packets[PACKETS];
+static uint8_t area[IST_JOB_MOST];
 static ist_link links[LINKS], read_links[LINKS];
 static uint32_t costs[LINKS], pairs[2 * PAIRS], stations, read_stations, steps;
-static size_t job_length, answer_length, costs_length, sheet_length, count, read_count, pair_count, written, offset, length;
+static size_t job_length, answer_length, costs_length, sheet_length, log_length, count, read_count, pair_count, written, first;
+static size_t offset, length;
 
 static void nothing(void)
 {
@@ -46,6 +48,11 @@ static void call_sheet(void)
 static void call_apply_sheet(void)
 {
     ist_apply_sheet(job, job_length, sheet, sheet_length, area, sizeof area, &written);
+}
+
+static void call_replay(void)
+{
+    ist_replay(job, job_length, packets, log_length, area, sizeof area, &written, &first);
 }
 
 static void call_find_link(void)
@@ -103,6 +110,7 @@ static struct {
     {"ist_judge_answer", call_judge_answer, 0},
     {"ist_sheet", call_sheet, 0},
     {"ist_apply_sheet", call_apply_sheet, 0},
+    {"ist_replay", call_replay, 0},
     {"ist_find_link", call_find_link, 0},
     {"ist_find_cost", call_find_cost, 0},
     {"ist_read_job", call_read_job, 0},
@@ -150,13 +158,31 @@ static int next_job(FILE *file)
 /* The new costs of the answer, as its own bytes, and their sheet; both empty for a refused job. */
 static void make_sheet(void)
 {
-    size_t first = 0, last = 0, last_length = 0;
-    ist_find_cost(job, job_length, answer, answer_length, 0, &first, &last_length);
+    size_t start = 0, last = 0, last_length = 0;
+    ist_find_cost(job, job_length, answer, answer_length, 0, &start, &last_length);
     if (count > 0)
         ist_find_cost(job, job_length, answer, answer_length, (uint32_t)count - 1, &last, &last_length);
-    costs_length = last + last_length - first;
-    memcpy(new_costs, answer + first, costs_length);
+    costs_length = last + last_length - start;
+    memcpy(new_costs, answer + start, costs_length);
     ist_sheet(job, job_length, new_costs, costs_length, sheet, sizeof sheet, &sheet_length);
+}
+
+static void add_packet(uint32_t link, uint8_t up)
+{
+    if (link > 127)
+        packets[log_length++] = (uint8_t)(link | 128);
+    packets[log_length++] = (uint8_t)(link > 127 ? link >> 7 : link);
+    packets[log_length++] = up;
+}
+
+/* Every link up and down again. */
+static void make_log(void)
+{
+    log_length = 0;
+    for (uint32_t link = 0; link < count; link++) {
+        add_packet(link, 1);
+        add_packet(link, 0);
+    }
 }
 
 static void measure(size_t empty)
@@ -164,6 +190,7 @@ static void measure(size_t empty)
     ist_read_job(job, job_length, links, 4 * LINKS, &stations, &count);
     ist_answer(job, job_length, answer, sizeof answer, &answer_length);
     make_sheet();
+    make_log();
     for (size_t i = 0; i < FUNCTIONS; i++) {
         size_t taken = depth(functions[i].call) - empty;
         if (functions[i].most < taken)

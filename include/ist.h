@@ -2,7 +2,7 @@
  *
  * Every function takes any bytes and any numbers and always returns. All are reentrant: they keep no state, may be called
  * again while they run, from several threads at once, and call nothing but memcpy and memset. docs/FRAMES.md has the layout of
- * job and answer frames, of costs and of step sheets, with examples.
+ * job and answer frames, of costs, of step sheets and of packet logs, with examples.
  *
  * What the caller owes, since nothing can test it here:
  * - a pointer with its length names that many elements that may be read (and written, unless it points to const); they are
@@ -18,10 +18,11 @@
  *     ist_find_cost      8,200    ist_write_job          16,300
  *     ist_read_job      13,700    ist_read_answer        11,400
  *     ist_sheet          7,600    ist_apply_sheet         6,600
+ *     ist_replay         9,000
  *
- * Results. A refusal is the first "no" of the questions put, by the numbers below: 1 to 6 to the job, then 8 to the costs or the
- * sheet that come with it, and 7 last. It writes nothing into an area or an array. A judge's yes is 0, like success; its no is
- * -1; compare with the names.
+ * Results. A refusal is the first "no" of the questions put, by the numbers below: 1 to 6 to the job, then 8 or 9 to what comes
+ * with it, and 7 last. It writes nothing into an area or an array. A judge's yes is 0, like success; its no is -1; compare with
+ * the names.
  */
 #ifndef IST_H
 #define IST_H
@@ -53,8 +54,10 @@ extern "C" {
 #define IST_REFUSED_TREE 6
 /* the area, or an array, is too short for what would be written; */
 #define IST_REFUSED_AREA 7
-/* the costs or the sheet going in are not in form, or a cost leaves 0 to 2,097,151. */
+/* the costs or the sheet going in are not in form, or a cost leaves 0 to 2,097,151; */
 #define IST_REFUSED_SHEET 8
+/* the packet log is not in form, or names a link that is not in the job. */
+#define IST_REFUSED_LOG 9
 
 /* The longest job frame, the longest answer frame and the longest step sheet, in bytes. */
 #define IST_JOB_MOST 1539
@@ -65,6 +68,9 @@ extern "C" {
 /* The most links of a job, and the most pairs of an answer. */
 #define IST_LINKS_MOST 256
 #define IST_PAIRS_MOST 63
+
+/* From ist_replay, in place of a number of packets: after none. No log has so many packets. */
+#define IST_NEVER ((size_t)-1)
 
 /* Answers a job frame: the new costs with the fewest steps and among those the lowest, and a pairing that proves it, as an
  * answer frame in the area. 0 or a refusal; *written is the answer's length, or 0 if refused. */
@@ -101,6 +107,17 @@ int32_t ist_sheet(const uint8_t *job, size_t job_len, const uint8_t *costs, size
  * byte. */
 int32_t ist_apply_sheet(const uint8_t *job, size_t job_len, const uint8_t *sheet, size_t sheet_len, uint8_t *area,
                         size_t area_len, size_t *written);
+
+/* Replays a log of step packets over the job's costs, one by one, and writes the final costs into the area, one number a link in
+ * link order. A packet is two numbers, each in shortest form of one to three bytes: a link, then 1 if its cost goes up by one or
+ * 0 if it goes down. A log is packets up to its last byte; it has no count and may be empty. A packet that would take a cost
+ * below 0 or above 2,097,151 leaves it, and counts like any other. 0, a refusal of the job, 1 to 6, 9 if the log is not just
+ * packets of the job's links, or 7; *written is the length of the costs, or 0 if refused (of a job without links it is 0 too:
+ * look at the result). *first is the least number of packets after which the marked tree was cheapest: 0 if it was so from the
+ * start, IST_NEVER if it was so after none, or if refused. IST_COSTS_MOST bytes are enough for all costs. No log whose final
+ * costs make the tree cheapest has fewer packets than the steps of ist_answer. */
+int32_t ist_replay(const uint8_t *job, size_t job_len, const uint8_t *log, size_t log_len, uint8_t *area, size_t area_len,
+                   size_t *written, size_t *first);
 
 /* A link as a record: its two ends, its cost, its mark (1 tree, 0 spare, 2 laid but not plugged). */
 typedef struct {

@@ -4,7 +4,8 @@ It reads and judges frames by the document's words and finds answers by trying e
 links, all choices of whole-number costs for all links by rising steps (0 steps, 1 step, ..: no window, so negative costs are
 among them), all pairings.
 It knows no path test for "cheapest" and no search for pairings, so it shares no idea with the model that it is held against.
-A step sheet is divided into all its numbers first, and then asked as a whole; the model takes entry by entry.
+A step sheet or a packet log is divided into all its numbers first, and then asked as a whole; the model takes entry by entry.
+A log is replayed over a list of costs, and all spanning trees are asked after every packet.
 
 Run: python3 tests/brute_force.py [COUNT]    solves COUNT small random jobs (default 100) and a larger one for every four,
 with the assertions below, and prints figures.
@@ -13,6 +14,9 @@ cost; no best choice moves an unplugged link; the greatest weight of a pairing e
 each best pairing as the document says.
 Step sheets and new costs that are in form give each other byte for byte; the absolute changes of the sheet of a best choice
 add up to the steps. Of all short strings of small bytes, those that are the sheet of some costs are read, and no others.
+No log after which the tree is cheapest has fewer packets than the steps; the packets to best costs have just as many, and the
+tree is cheapest after the last of them first. Of all short strings of small bytes, those that are a log are read, and no
+others.
 """
 import random
 import sys
@@ -24,6 +28,10 @@ Job = namedtuple("Job", "stations links")
 Answer = namedtuple("Answer", "steps costs pairs")
 # All best choices of costs, the lowest of them, and all best pairings that an answer may list.
 Solution = namedtuple("Solution", "steps best lowest pairings")
+# A step of a link, up (1) or down (0). What a log leads to: the bytes of the final costs; whether the tree is cheapest after
+# 0, 1, .. all packets; and the least number of them after which it is, or None.
+Packet = namedtuple("Packet", "link up")
+Replay = namedtuple("Replay", "costs cheapest first")
 
 # How many bytes a number may take, how many the first of an answer, and how many one of a step sheet; the largest numbers.
 NUMBER_BYTES, STEP_BYTES, SHEET_BYTES = 3, 4, 4
@@ -388,7 +396,46 @@ def step_refusal(frame, make, given):
     return refusal(frame) or (8 if make(job_of(frame), given) is None else 0)
 
 
-# Random jobs, damaged frames, and answers, costs and sheets made elsewhere.
+# Packet logs.
+
+def log_frame(packets):
+    return write_numbers([value for packet in packets for value in packet])
+
+
+def read_log(job, frame):
+    """The packets of the log; None if it is not in form."""
+    values = numbers_of(frame)
+    if values is None or len(values) % 2:
+        return None
+    packets = [Packet(link, up) for link, up in zip(values[::2], values[1::2])]
+    return packets if all(packet.link < len(job.links) and packet.up <= 1 for packet in packets) else None
+
+
+def heard(costs, packet):
+    """The costs after a packet: one that would take a cost out of its range leaves them."""
+    moved = [cost + (2 * packet.up - 1) * (e == packet.link) for e, cost in enumerate(costs)]
+    return moved if in_range(moved) else costs
+
+
+def replay(job, frame):
+    """What the log leads to; None if it is not in form."""
+    packets = read_log(job, frame)
+    if packets is None:
+        return None
+    trees = spanning_trees(job)
+    tables = [old_costs(job)]
+    for packet in packets:
+        tables.append(heard(tables[-1], packet))
+    cheapest = [is_cheapest(job, costs, trees) for costs in tables]
+    return Replay(write_numbers(tables[-1]), cheapest, cheapest.index(True) if True in cheapest else None)
+
+
+def log_refusal(frame, log):
+    """The number of the first "no": questions 1 to 6, then 9; 0 if there is none."""
+    return refusal(frame) or (9 if read_log(job_of(frame), log) is None else 0)
+
+
+# Random jobs, damaged frames, and answers, costs, sheets and logs made elsewhere.
 
 def random_tree(rng, stations):
     """The ends of the links of a random tree: each station but the first is joined to an earlier one."""
@@ -649,7 +696,69 @@ def small_sheets(links):
     return [sheet_frame(some) for size in range(4) for some in product(entries, repeat=size)]
 
 
-# What is asserted of step sheets.
+def settling(rng, job, costs):
+    """The packets that lead to these costs, in any order."""
+    moves = [(e, new - old) for e, (new, old) in enumerate(zip(costs, old_costs(job)))]
+    packets = [Packet(e, int(change > 0)) for e, change in moves for _ in range(abs(change))]
+    return rng.sample(packets, len(packets))
+
+
+def back(packets):
+    """The packets that undo these, the last one first."""
+    return [Packet(link, 1 - up) for link, up in packets[::-1]]
+
+
+def random_packets(rng, links, count):
+    return [Packet(rng.choice(links), rng.randrange(2)) for _ in range(count)] if links else []
+
+
+def logs_elsewhere(rng, job, solution):
+    """Packet logs to the job, in form and not: the bytes and what they are, each once."""
+    best = rng.choice([costs for costs in solution.best if in_range(costs)])
+    right = [("no packets", []), ("to the lowest best", settling(rng, job, solution.lowest))]
+    right += rng.sample(other_logs(rng, job, settling(rng, job, best)), 4)
+    made = {log_frame(packets): about for about, packets in right}
+    frame = log_frame(random_packets(rng, range(len(job.links)), 3))
+    wrong = damaged_logs(rng, job, frame) + damaged_logs(rng, job, log_frame(settling(rng, job, best)))
+    return {**dict(rng.sample(wrong, 5)), **made}
+
+
+def other_logs(rng, job, packets):
+    """Logs in form: to best costs, with steps forth and back between, and undone; and any packets."""
+    links = list(range(len(job.links)))
+    noise = random_packets(rng, links, rng.randint(1, 3))
+    mixed = packets + noise + back(noise)
+    near = [e for e in links if not 1 < job.links[e].cost < NUMBER_MOST - 1]
+    past = [Packet(e, int(job.links[e].cost > 1)) for e in near for _ in range(2)]
+    return [
+        ("to best costs", packets), ("with others", rng.sample(mixed, len(mixed))), ("past best costs", packets + noise),
+        ("undone", packets + back(packets[-2:])), ("undone and sent again", packets + back(packets[-1:]) + packets[-1:]),
+        ("any packets", random_packets(rng, links, 5)), ("past the ends", past[:6] + random_packets(rng, near, 3)),
+        ("unplugged links", random_packets(rng, unplugged_links(job), 4)),
+    ]
+
+
+def small_logs(links):
+    """Every log of up to two packets: a link or the number past the last, and 0 to 2."""
+    packets = list(product(range(links + 1), range(3)))
+    return [log_frame(some) for size in range(3) for some in product(packets, repeat=size)]
+
+
+def damaged_logs(rng, job, frame):
+    """The log with a packet that is none behind it, with a number not in form, cut off, or damaged."""
+    links = len(job.links)
+    packets = [(links, 0), (links, 1), (0, 2), (0, 128), (65536, 1), (0, 65537), (NUMBER_MOST, 0), (NUMBER_MOST + 1, 1)]
+    made = [(frame + write_numbers(packet), f"then link {packet[0]}, {packet[1]}") for packet in packets]
+    made += [(frame + bytes(tail), f"then {bytes(tail).hex(' ')}") for tail in
+             ([0], [128], [0, 129], [128, 0, 1], [0, 128, 0], [128, 128, 0, 0], [0, 129, 128, 128, 1], [0, 0, 0])]
+    if frame:
+        parts = pieces(frame)
+        made += [(frame[:-1], "the last byte missing"), (frame[1:], "the first byte missing"), (damaged(rng, frame), "damaged")]
+        made += [(not_shortest(parts, rng.randrange(len(parts))), "not shortest")]
+    return made
+
+
+# What is asserted of step sheets and packet logs.
 
 def hold_sheets(rng, job, solution):
     """Sheets and costs give each other; the absolute changes of the sheet of a best choice add up to the steps."""
@@ -672,6 +781,29 @@ def hold_every_string(mark):
     assert all(costs_of(job, string) == sheets.get(string) for string in strings), "a string is not read as its costs"
 
 
+def hold_logs(rng, job, solution):
+    """The packets to best costs are as many as the steps, and no log that makes the tree cheapest has fewer."""
+    for costs in solution.best:
+        if in_range(costs):
+            packets = settling(rng, job, costs)
+            assert len(packets) == solution.steps == replay(job, log_frame(packets)).first, "not cheapest at the last packet"
+    for log in logs_elsewhere(rng, job, solution):
+        result = replay(job, log)
+        if result is not None:
+            assert log_frame(read_log(job, log)) == log, "the log is not read as its packets"
+            assert result.first is None or result.first >= solution.steps, "fewer packets than steps"
+            assert not result.cheapest[-1] or len(result.cheapest) - 1 >= solution.steps, "a shorter log"
+
+
+def hold_every_log():
+    """Of all strings of up to six bytes 0 to 2, those are read that are a log to a job of two links."""
+    job = Job(2, [Link(0, 1, 1, TREE), Link(0, 1, 1, SPARE)])
+    packets = [Packet(e, up) for e in range(2) for up in range(2)]
+    logs = {log_frame(some): list(some) for size in range(4) for some in product(packets, repeat=size)}
+    strings = [bytes(some) for size in range(7) for some in product(range(3), repeat=size)]
+    assert all(read_log(job, string) == logs.get(string) for string in strings), "a string is not read as its packets"
+
+
 def main():
     wanted = int(sys.argv[1]) if len(sys.argv) > 1 else 100
     rng = random.Random(1)
@@ -682,8 +814,10 @@ def main():
         assert judge_tree(job) == (solution.steps == 0)
         assert all(judge_answer(job, frame) for frame in right_answers(solution))
         hold_sheets(rng, job, solution)
+        hold_logs(rng, job, solution)
     for mark in (SPARE, UNPLUGGED):
         hold_every_string(mark)
+    hold_every_log()
     print(len(jobs), "jobs solved; steps and how often:", dict(sorted(Counter(s.steps for s in solutions).items())))
     print(sum(1 for job in jobs if unplugged_links(job)), "of them have unplugged links")
 

@@ -1,11 +1,11 @@
 """Runs the antt model (crates/*/specs) on jobs and holds every result to the brute-force reference.
 
 Run: python3 tests/model.py [COUNT]    COUNT random jobs (default 80), 3 refused frames for every 4 of them, and the rows
-of document 01. Some 80 seconds. `rt` must be on the PATH. Nothing in this repository is changed.
+of document 01. Some 100 seconds. `rt` must be on the PATH. Nothing in this repository is changed.
 
 It copies crates/ and crates.txt into a temporary directory and adds a crate `probe`. Its specs state, a fact a result and
-each by `refl`, that the model computes what the reference found; `rt dev probe` checks them. Then one fact is stated
-wrongly, and rt must refuse it. It prints figures and OK, or every fact that failed with its job's bytes.
+each by `refl`, that the model computes what the reference found; `rt dev probe` checks them. Then two facts are stated
+wrongly, and rt must refuse both. It prints figures and OK, or every fact that failed with its job's bytes.
 """
 import random
 import re
@@ -22,7 +22,7 @@ import brute_force as reference
 from brute_force import NUMBER_MOST, TREE, UNPLUGGED, Answer, Job, Link, Solution
 
 ROOT = Path(__file__).resolve().parent.parent
-STANDS_ON = "sheet frame optimum graph number loops limits"
+STANDS_ON = "replay sheet frame optimum graph number loops limits"
 FACTS_A_FILE = 400
 
 # The modules that hold the model: what is `unfoldable` in them is unfolded in every fact.
@@ -33,18 +33,21 @@ MODEL = {
     "optimum": ["Search", "Lowest", "Solve"],
     "frame": ["Meaning", "Services", "Questions", "Answers"],
     "sheet": ["Sheet", "Reading"],
+    "replay": ["Log", "LogReading"],
 }
 LIBRARY = ["mathlib.Core.List.flatMap", "mathlib.Core.Bool.xor"]
 
 HEADER = """-- What the model computes. Assumes nothing.
 use Prim.Native.Nat.{ℕ, suc}
 use mathlib.Core.Path.{_≡_, refl}
-use mathlib.Core.Bool.{Bool, true, false, _&&_, _||_}
+use mathlib.Core.Bool.{Bool, true, false, cond, _&&_, _||_}
 use mathlib.Core.List.{List, [], _∷_}
 use mathlib.Core.Option.{Option, Option·getD}
 use lib.Dec.{eqb}
-use lib.ListN.{length}
+use lib.ListN.{length, take}
 use Rattle.loops.specs.Loop.{tabulate}
+use Rattle.graph.specs.Rank.{treeRanks}
+use Rattle.graph.specs.Paths.{judge}
 use Rattle.optimum.specs.Optimum.{Answer}
 use Rattle.optimum.specs.Search.{Problem, built}
 use Rattle.optimum.specs.Solve.{problem}
@@ -55,8 +58,10 @@ use Rattle.frame.specs.AnswerMeaning.{answerFrame}
 use Rattle.frame.specs.Answers.{answerOf, judgeTree, judgeAnswer, readAnswer, pairsWeight}
 use Rattle.frame.specs.Services.{Outcome, written}
 use Rattle.frame.specs.Replies.{answered, linkPart, costPart, noAnswer}
-use Rattle.sheet.specs.Sheet.{movesOf, moveSum}
+use Rattle.sheet.specs.Sheet.{movesOf, moveSum, costsFrame}
 use Rattle.sheet.specs.Reading.{isSome, costsAt, sheetBytes, costsBytes}
+use Rattle.replay.specs.Log.{Packet, logFrame, replayed}
+use Rattle.replay.specs.LogReading.{readLog}
 
 abbrev same : List ℕ → List ℕ → Bool
 same [] [] = true
@@ -77,6 +82,27 @@ stepped make s f area =
 -- The absolute changes of the sheet of the own answer, added up.
 abbrev ownChanges : Job → ℕ
 ownChanges j = moveSum (movesOf (length (j .links)) (costOf j) (costsAt (answerOf j .costs)))
+
+-- The packets of a log to a job frame; none of one that is not in form.
+abbrev packetsOf : List ℕ → List ℕ → List Packet
+packetsOf s f = Option·getD (readLog (length (jobOf s .links)) f) []
+
+abbrev logRefusal : List ℕ → List ℕ → ℕ
+logRefusal s f = later (refusal s) (isSome (readLog (length (jobOf s .links)) f)) 9
+
+-- What the replay leaves in an area: questions 1 to 6, then 9, then 7.
+abbrev replayedInto : List ℕ → List ℕ → List ℕ → Outcome
+replayedInto s f area =
+    let made : List ℕ = costsFrame (length (jobOf s .links)) (replayed (packetsOf s f) (costOf (jobOf s))) in
+    written (logRefusal s f) made 0 area
+
+-- For 0, 1, .. all packets of a log: 1 if the tree is judged cheapest after so many, else 0.
+abbrev cheapestAfter : List ℕ → List ℕ → List ℕ
+cheapestAfter s f =
+    let j : Job = jobOf s in
+    let qs : List Packet = packetsOf s f in
+    let ranks : List ℕ = treeRanks (graphOf j) (treeOf j) (costOf j) in
+    tabulate (suc (length qs)) λ k. cond (judge (graphOf j) (treeOf j) (replayed (take k qs) (costOf j)) ranks) 1 0
 
 abbrev problemOf : Job → Problem
 problemOf j = problem (graphOf j) (treeOf j) (costOf j)
@@ -231,12 +257,15 @@ class Probe:
     def __init__(self, seed):
         self.rng = random.Random(seed)
         self.step_rng = random.Random(seed)
+        self.log_rng = random.Random(seed)
         self.facts = []
         self.refusals = Counter()
         self.unplugged = 0
         self.steps = Counter()
         self.judged = Counter()
         self.translated = {make: Counter() for make in STEPPED}
+        self.replayed = Counter()
+        self.first = Counter()
 
     def state(self, frame, about, term, value):
         self.facts.append(Fact(f"fact-{len(self.facts)}", frame, about, term, value))
@@ -260,7 +289,7 @@ class Probe:
         return number
 
     def refused(self, frame, number):
-        """Nothing is written, every part is empty, also for an answer with the costs of the refused job; 8 comes later."""
+        """Nothing is written, every part is empty, also for an answer with the costs of the refused job; 8 and 9 come later."""
         s = bytes_text(frame)
         area = [9, 8, 7]
         answer = T1_ANSWER if number < 4 else reference.unchanged(reference.job_of(frame))
@@ -271,6 +300,8 @@ class Probe:
         for make, given in ((reference.sheet_of, costs), (reference.costs_of, b"\0")):
             self.stepped(frame, make, given, "in form")
             self.stepped(frame, make, b"\x80\0", "not in form")
+        self.replay(frame, b"\0\1", "a packet")
+        self.replay(frame, b"\0\2", "not in form")
 
     def accepted(self, frame):
         s = bytes_text(frame)
@@ -283,6 +314,7 @@ class Probe:
         self.weights(frame, job)
         self.answers(frame, job, reference.made_elsewhere(self.rng, job, solution))
         self.sheets(frame, job, solution)
+        self.logs(frame, job, solution)
 
     def link_parts(self, frame, job):
         s = bytes_text(frame)
@@ -360,6 +392,32 @@ class Probe:
             told = f"{make.__name__} {given.hex(' ')} ({about}) in {length} bytes"
             self.state(frame, told, term, served_text(number, made, area))
 
+    def logs(self, frame, job, solution):
+        """What the replay makes of packet logs, in form and not."""
+        for log, about in reference.logs_elsewhere(self.log_rng, job, solution).items():
+            self.replay(frame, log, about)
+
+    def replay(self, frame, log, about):
+        """The refusal, what is left in an area of a byte less than is written, or up to two more, and, of a log in form, its
+        packets and after how many of them the tree is cheapest."""
+        s, f = bytes_text(frame), bytes_text(log)
+        number = reference.log_refusal(frame, log)
+        told = f"log {log.hex(' ')} ({about})"
+        self.replayed[number] += 1
+        self.state(frame, f"refusal with the {told}", f"logRefusal {s} {f}", number)
+        result = None if number else reference.replay(reference.job_of(frame), log)
+        made = result.costs if result else b""
+        area = [self.log_rng.randrange(256) for _ in range(max(0, len(made) + self.log_rng.randint(-1, 2)))]
+        self.state(frame, f"outcome of the {told}", f"replayedInto {s} {f} {bytes_text(area)}", served_text(number, made, area))
+        if result:
+            self.packets(frame, log, result, told)
+
+    def packets(self, frame, log, result, told):
+        s, f = bytes_text(frame), bytes_text(log)
+        self.first["never" if result.first is None else "later" if result.first else "at the start"] += 1
+        self.state(frame, f"read and written: {told}", f"logFrame (packetsOf {s} {f})", list_text(log))
+        self.state(frame, f"cheapest after: {told}", f"cheapestAfter {s} {f}", list_text(map(int, result.cheapest)))
+
     def lent(self, job):
         number = reference.list_refusal(job)
         self.state(reference.job_frame(job), "refusal of a lent list", f"listRefusal ({job_text(job)})", number)
@@ -423,6 +481,13 @@ def small_sheets(probe):
     for job in TINY:
         for sheet in reference.small_sheets(len(job.links)):
             probe.stepped(reference.job_frame(job), reference.costs_of, sheet, "small")
+
+
+def small_logs(probe):
+    """Every log of up to two packets to jobs of no link, one and two, packets that are none among them."""
+    for job in TINY:
+        for log in reference.small_logs(len(job.links)):
+            probe.replay(reference.job_frame(job), log, "small")
 
 
 def far_job(probe, cost):
@@ -509,9 +574,11 @@ def failures(output, facts):
 
 
 def spoilt(facts):
-    """One of the facts, stated wrongly."""
-    fact = next(fact for fact in facts if fact.about == "judge of the tree")
-    return fact._replace(value="false" if fact.value == "true" else "true")
+    """Some of the facts, stated wrongly: the judge's word of a tree, and of a log after how many packets it says yes."""
+    tree = next(fact for fact in facts if fact.about == "judge of the tree")
+    log = next(fact for fact in facts if fact.about.startswith("cheapest after") and fact.value.startswith("0 ∷ 0 ∷ 1"))
+    wrong = "false" if tree.value == "true" else "true"
+    return [tree._replace(value=wrong), log._replace(value=log.value.replace("0 ∷ 0 ∷ 1", "0 ∷ 1 ∷ 1", 1))]
 
 
 def show_figures(probe):
@@ -523,6 +590,8 @@ def show_figures(probe):
     print(f"answers judged: {sum(probe.judged.values())}, yes {probe.judged[True]}, no {probe.judged[False]}")
     show_translated(probe.translated[reference.sheet_of], "new costs", "made into sheets")
     show_translated(probe.translated[reference.costs_of], "step sheets", "applied")
+    show_translated(probe.replayed, "packet logs", "replayed")
+    print(f"the tree first cheapest: {dict(probe.first)}")
     print(f"facts compared: {len(probe.facts)}", flush=True)
 
 
@@ -545,6 +614,7 @@ def main():
     document_rows(probe)
     limit_jobs(probe)
     small_sheets(probe)
+    small_logs(probe)
     chosen_frames(probe, int(sys.argv[1]) if len(sys.argv) > 1 else 80)
     show_figures(probe)
     with tempfile.TemporaryDirectory() as folder:
@@ -554,9 +624,9 @@ def main():
         if not hold:
             show_failures(output, probe.facts)
             sys.exit(1)
-        wrong = [spoilt(probe.facts)]
+        wrong = spoilt(probe.facts)
         hold, output = check(repo, wrong)
-        assert not hold and failures(output, wrong), "a fact stated wrongly was not refused"
+        assert not hold and len(failures(output, wrong)) == len(wrong), "a fact stated wrongly was not refused"
     print("OK")
 
 

@@ -9,6 +9,7 @@
 #include "lists.h"
 #include "movers.h"
 #include "readers.h"
+#include "replays.h"
 
 enum { ALTERED = 5, READ_IN = 3, FEW_STEPS = 4, SEARCHED_EDGES = 5, ALL_LINKS = 32 };
 
@@ -230,6 +231,7 @@ static void check_lent(void)
     check_offers();
     check_list_writers(refusal, given.frame, given.length);
     check_moves(refusal, &given);
+    check_replays(refusal, &given);
     if (refusal == 0 && job.edges <= SEARCHED_EDGES && solution.steps <= FEW_STEPS && (thorough || pick(4) == 0))
         check_by_search();
     count_frame();

@@ -9,6 +9,10 @@ struct counts {
     size_t searched, offers_yes, offers_no, finds, lists, lists_refused[7], list_calls, reads;
     /* Costs and sheets tried: done, refused by 8 (`leaving`: for a cost that leaves its range), or refused with the job. */
     size_t sheets_made, sheet_longest, costs_refused, sheets_applied, sheets_refused, sheets_leaving, moves_refused;
+    /* Logs tried: replayed, by when the tree was first cheapest (`shortest`: after as many packets as the answer has steps, not
+     * none), refused by 9, or refused with the job. Packets, and those that would have taken a cost out of its range. */
+    size_t logs_at_start, logs_later, logs_never, logs_shortest, logs_by_trees, logs_refused, logs_refused_with_job;
+    size_t log_longest, packets, packets_left;
 };
 
 extern struct counts counts;

@@ -103,7 +103,7 @@ void differ(const char *format, ...)
     printf("\n");
     va_end(arguments);
     print_hex("frame", lent.job, lent.job_length);
-    print_hex("answer, costs or sheet lent last", lent.answer, lent.answer_length);
+    print_hex("answer, costs, sheet or log lent last", lent.answer, lent.answer_length);
     fflush(stdout);
     _Exit(1);
 }

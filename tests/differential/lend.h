@@ -13,7 +13,7 @@ enum { LINKS_ROOM = (1 << 21) + 1, JOB_ROOM = 5 * LINKS_ROOM, AREA_ROOM = 2048 }
 struct lent {
     const uint8_t *job;
     size_t job_length;
-    /* An answer frame, costs or a step sheet. */
+    /* An answer frame, costs, a step sheet or a packet log. */
     const uint8_t *answer;
     size_t answer_length;
     uint32_t stations;

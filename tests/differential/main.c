@@ -10,6 +10,8 @@
 #include "generate.h"
 #include "lend.h"
 #include "movers.h"
+#include "packets.h"
+#include "replays.h"
 #include "rows.h"
 #include "sheets.h"
 
@@ -19,13 +21,20 @@ enum { LONG_LIST = 1 << 20 };
 
 static uint8_t frame[JOB_ROOM];
 static struct job job;
+/* The job's, where logs are tried on it. */
+static struct solution solution;
 
-static size_t frames_reported, moves_reported;
+static size_t frames_reported, moves_reported, logs_reported;
 
 /* How many costs and sheets were tried. */
 static size_t moves_tried(void)
 {
     return counts.sheets_made + counts.costs_refused + counts.sheets_applied + counts.sheets_refused + counts.moves_refused;
+}
+
+static size_t logs_tried(void)
+{
+    return counts.logs_at_start + counts.logs_later + counts.logs_never + counts.logs_refused + counts.logs_refused_with_job;
 }
 
 static void print_kind(size_t count, const char *kind)
@@ -34,6 +43,7 @@ static void print_kind(size_t count, const char *kind)
     fflush(stdout);
     frames_reported = counts.frames;
     moves_reported = moves_tried();
+    logs_reported = logs_tried();
 }
 
 /* Prints how many frames were checked since the last report. */
@@ -46,6 +56,12 @@ static void report(const char *kind)
 static void report_moves(const char *kind)
 {
     print_kind(moves_tried() - moves_reported, kind);
+}
+
+/* The same of packet logs. */
+static void report_logs(const char *kind)
+{
+    print_kind(logs_tried() - logs_reported, kind);
 }
 
 /* Fixed frames. */
@@ -477,6 +493,257 @@ static void check_sheets(void)
     check_long_sheets();
 }
 
+/* Packet logs, for the job lent. */
+
+static void check_log_bytes(const uint8_t *bytes, size_t length)
+{
+    check_log(0, &job, solution.steps, bytes, length);
+}
+
+static void lend_solved(void)
+{
+    solve(&job, &solution);
+    lend_job(frame, put_job(frame, &job));
+}
+
+/* The reference is held to the rows by its own test. */
+static void check_log_row(const struct log_row *row)
+{
+    static struct numbers numbers;
+    uint8_t bytes[ROW_ROOM];
+    size_t length = from_hex(row->job, frame);
+
+    divide(frame, length, NUMBER_BYTES, &numbers);
+    expect("the row's refusal", read_job(&numbers, &job), 0);
+    lend_solved();
+    check_log_bytes(bytes, from_hex(row->log, bytes));
+}
+
+static void check_log_rows(void)
+{
+    thorough = true;
+    for (size_t i = 0; i < LOG_ROWS; i++)
+        check_log_row(&log_rows[i]);
+    thorough = false;
+    report_logs("rows of packet logs");
+}
+
+static void check_short_logs(void)
+{
+    for (size_t links = 0; links <= 2; links++) {
+        lend_parallel(links, 1);
+        solve(&job, &solution);
+        each_short(check_log_bytes);
+        each_odd(check_log_bytes);
+    }
+    report_logs("logs of 0 to 2 bytes, and of 3 to 5 as above, for jobs of 0 to 2 links: all");
+}
+
+enum { PACKETS_TRIED = 3 };
+
+/* The logs that begin with these bytes and have at most so many more packets, of any of so many edges and ways. */
+static void check_more_packets(uint8_t *bytes, size_t length, size_t more, uint8_t edges, uint8_t ways)
+{
+    check_log_bytes(bytes, length);
+    for (uint8_t edge = 0; more > 0 && edge < edges; edge++)
+        for (uint8_t way = 0; way < ways; way++) {
+            bytes[length] = edge;
+            bytes[length + 1] = way;
+            check_more_packets(bytes, length + 2, more - 1, edges, ways);
+        }
+}
+
+/* A link and a direction that do not exist are among them. */
+static void check_few_packets(void)
+{
+    uint8_t bytes[2 * PACKETS_TRIED];
+
+    for (size_t links = 0; links <= 3; links++)
+        for (size_t first = 0; first < (links == 0 ? 1 : COUNT_OF(odd_costs)); first++) {
+            lend_parallel(links, first);
+            solve(&job, &solution);
+            check_more_packets(bytes, 0, PACKETS_TRIED, (uint8_t)links + 1, 3);
+        }
+    report_logs("logs of up to 3 packets, wrong ones among them, for jobs of 0 to 3 links at the ends of the range: all");
+}
+
+static void check_small_job_logs(const struct job *small)
+{
+    uint8_t bytes[2 * PACKETS_TRIED];
+
+    for (size_t e = 0; e < small->edges; e++)
+        if (small->edge[e].end1 >= small->edge[e].end2)
+            return;
+    if (!is_spanning(small))
+        return;
+    job = *small;
+    lend_solved();
+    check_more_packets(bytes, 0, PACKETS_TRIED, (uint8_t)job.edges, 2);
+}
+
+static void check_small_logs(void)
+{
+    each_small_job(check_small_job_logs);
+    report_logs("logs of up to 3 packets for jobs of at most 3 stations, 3 links, costs 0 to 1, lower end first: all");
+}
+
+static void check_put_log(const struct log *log)
+{
+    static uint8_t bytes[LOG_ROOM];
+
+    check_log_bytes(bytes, put_log(bytes, log));
+}
+
+/* The way in which an edge makes the tree dearer than others. */
+static uint32_t way_off(size_t e)
+{
+    return job.edge[e].mark == TREE;
+}
+
+/* All costs are equal but one, which is a step off. Each edge in turn goes a step off too before that one comes back, and then
+ * back: if nothing but the edge keeps the tree from being cheapest, it does so up to the last packet. */
+static void check_each_off(uint32_t off)
+{
+    static struct log log;
+
+    for (size_t e = 0; e < job.edges; e++)
+        job.edge[e].cost = 1000;
+    job.edge[off].cost = way_off(off) == 1 ? 1001 : 999;
+    lend_solved();
+    log.packets = 3;
+    for (uint32_t e = 0; e < job.edges; e++) {
+        log.packet[0] = (struct packet){e, way_off(e)};
+        log.packet[1] = (struct packet){off, 1 - way_off(off)};
+        log.packet[2] = (struct packet){e, 1 - way_off(e)};
+        check_put_log(&log);
+    }
+}
+
+static void check_level_logs(void)
+{
+    fill_longest_answer(0);
+    check_each_off(EDGES_MOST - 1);
+    check_each_off(0);
+    for (size_t tried = 0; tried < 4; tried++) {
+        random_job(&job, NODES_MOST, EDGES_MOST, true);
+        check_each_off(pick(EDGES_MOST));
+    }
+    report_logs("logs in which one link of a job of 256 decides: all links");
+}
+
+/* Every spare lies over every tree edge and is a step cheaper: as many pairs of them as there can be. */
+static void check_most_pairs(void)
+{
+    static struct log log;
+
+    fill_longest_answer(999);
+    log.packets = 0;
+    for (uint32_t e = 0; e < job.edges; e++) {
+        if (job.edge[e].mark == SPARE) {
+            job.edge[e] = (struct edge){0, NODES_MOST - 1, 999, SPARE};
+        } else {
+            job.edge[e].cost = 1000;
+            log.packet[log.packets++] = (struct packet){e, 0};
+        }
+    }
+    lend_solved();
+    check_put_log(&log);
+    log.packets--;
+    check_put_log(&log);
+    report_logs("logs for a job of most pairs");
+}
+
+/* As many packets as the tree of a large job can be judged after. */
+static void check_large_logs(void)
+{
+    static struct log log;
+    struct plan plan = {&job, &solution, 2000};
+
+    for (size_t tried = 0; tried < 60; tried++) {
+        random_job(&job, NODES_MOST, EDGES_MOST, tried % 2 == 0);
+        lend_solved();
+        random_log(&plan, &log);
+        check_put_log(&log);
+    }
+    report_logs("logs of up to 2,000 packets for jobs of up to 64 stations and 256 links");
+}
+
+/* One way for one edge, the other for another, and now and then any packet. */
+static void fill_long_log(struct log *log, size_t packets, uint32_t down, uint32_t up)
+{
+    for (log->packets = 0; log->packets < packets; log->packets++) {
+        uint32_t way = pick(2), edge = way == 1 ? up : down;
+        log->packet[log->packets] = (struct packet){pick(40) == 0 ? pick((uint32_t)job.edges) : edge, way};
+    }
+}
+
+/* Two stations; the tree link falls and the spare rises until they meet, near the end of the log. */
+static void check_million_judged(struct log *log)
+{
+    const uint32_t apart = 1000000;
+
+    job.nodes = 2;
+    job.edges = 5;
+    fill_parallel(job.edge, job.edges);
+    for (size_t e = 0; e < job.edges; e++)
+        job.edge[e].cost = job.edge[e].mark == SPARE ? COST_MOST : apart;
+    job.edge[2].cost = 0;
+    lend_solved();
+    fill_long_log(log, apart + 100000, 0, 2);
+    check_put_log(log);
+    log->packet[log->packets++] = (struct packet){5, 0};
+    check_put_log(log);
+}
+
+/* 256 links, so that many packets have three bytes; the tree is cheapest at the start. */
+static void check_million_heard(struct log *log)
+{
+    random_job(&job, NODES_MOST, EDGES_MOST, true);
+    solve(&job, &solution);
+    for (size_t e = 0; e < job.edges; e++)
+        job.edge[e].cost = (uint32_t)solution.low[e];
+    lend_solved();
+    fill_long_log(log, 1000000, 255, 128);
+    check_put_log(log);
+}
+
+static void check_longest_logs(void)
+{
+    static struct log log;
+
+    check_million_judged(&log);
+    check_million_heard(&log);
+    report_logs("logs of a million packets and more");
+}
+
+/* One byte or one number all through, for a job of 256 links. */
+static void check_filled_logs(void)
+{
+    const size_t lengths[] = {1538, 65536, 1000000};
+    const char *const fillers[] = {"00", "01", "02", "80", "FF", "FF 01", "FF 01 01", "FF FF 7F", "80 80 80 01"};
+
+    for (size_t i = 0; i < COUNT_OF(lengths); i++)
+        for (size_t j = 0; j < COUNT_OF(fillers); j++) {
+            fill_frame(fillers[j], lengths[i]);
+            check_log_bytes(frame, lengths[i]);
+            check_log_bytes(frame, lengths[i] - 1);
+        }
+    report_logs("logs of 1,537 to 1,000,000 bytes");
+}
+
+static void check_logs(void)
+{
+    check_log_rows();
+    check_short_logs();
+    check_few_packets();
+    check_small_logs();
+    check_level_logs();
+    check_most_pairs();
+    check_large_logs();
+    check_longest_logs();
+    check_filled_logs();
+}
+
 /* Random frames. */
 
 static void check_random_job(uint32_t nodes_most, size_t edges_most, bool full)
@@ -605,6 +872,18 @@ static void print_move_counts(void)
     printf("%zu costs and sheets refused with their job\n", counts.moves_refused);
 }
 
+static void print_log_counts(void)
+{
+    printf("%zu logs replayed: %zu cheapest from the start, %zu later, %zu never; ",
+           counts.logs_at_start + counts.logs_later + counts.logs_never, counts.logs_at_start, counts.logs_later,
+           counts.logs_never);
+    printf("%zu first cheapest after no more packets than the answer has steps; %zu judged by all spanning trees\n",
+           counts.logs_shortest, counts.logs_by_trees);
+    printf("%zu packets heard, up to %zu in a log, %zu left a cost at an end of its range; ", counts.packets,
+           counts.log_longest, counts.packets_left);
+    printf("%zu logs refused 9, %zu with their job\n", counts.logs_refused, counts.logs_refused_with_job);
+}
+
 static void print_counts(void)
 {
     printf("%zu frames: %zu accepted", counts.frames, counts.refused[0]);
@@ -619,6 +898,7 @@ static void print_counts(void)
     printf("%zu frames read into arrays\n", counts.reads);
     print_list_counts();
     print_move_counts();
+    print_log_counts();
 }
 
 int main(int argc, char **argv)
@@ -637,6 +917,7 @@ int main(int argc, char **argv)
     check_long_frames();
     check_lists();
     check_sheets();
+    check_logs();
     check_random(count);
     print_counts();
     printf("OK\n");

@@ -3,7 +3,6 @@
 
 #include "check.h"
 #include "generate.h"
-#include "lend.h"
 #include "movers.h"
 #include "vary.h"
 
@@ -22,8 +21,7 @@ static int32_t call_apply_sheet(uint8_t *area, size_t area_length, size_t *writt
 static const struct writer sheet_writer = {"ist_sheet", call_sheet};
 static const struct writer costs_writer = {"ist_apply_sheet", call_apply_sheet};
 
-/* Lends what goes in, which must stay as it is, and holds what comes out. */
-static void hold(const struct writer *writer, const uint8_t *in, size_t in_length, int32_t word, const uint8_t *out,
+void hold_writer(const struct writer *writer, const uint8_t *in, size_t in_length, int32_t word, const uint8_t *out,
                  size_t out_length)
 {
     static uint8_t got[AREA_ROOM];
@@ -58,9 +56,9 @@ void check_costs(int refusal, const struct job *job, const uint8_t *costs, size_
         make_sheet(job, cost, &sheet);
         made_length = put_sheet(made, &sheet);
     }
-    hold(&sheet_writer, costs, length, word, made, made_length);
+    hold_writer(&sheet_writer, costs, length, word, made, made_length);
     if (word == IST_OK)
-        hold(&costs_writer, made, made_length, IST_OK, costs, length);
+        hold_writer(&costs_writer, made, made_length, IST_OK, costs, length);
     count_word(word, &counts.sheets_made, &counts.costs_refused);
     counts.sheet_longest = made_length > counts.sheet_longest ? made_length : counts.sheet_longest;
 }
@@ -75,9 +73,9 @@ void check_sheet(int refusal, const struct job *job, const uint8_t *sheet, size_
     int32_t word = refusal != 0 ? refusal : applied ? IST_OK : IST_REFUSED_SHEET;
     size_t made_length = applied ? put_costs(made, cost, job->edges) : 0;
 
-    hold(&costs_writer, sheet, length, word, made, made_length);
+    hold_writer(&costs_writer, sheet, length, word, made, made_length);
     if (applied)
-        hold(&sheet_writer, made, made_length, IST_OK, sheet, length);
+        hold_writer(&sheet_writer, made, made_length, IST_OK, sheet, length);
     count_word(word, &counts.sheets_applied, &counts.sheets_refused);
     counts.sheets_leaving += in_form && !applied;
 }

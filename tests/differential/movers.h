@@ -4,7 +4,11 @@
 #define MOVERS_H
 
 #include "alter.h"
+#include "lend.h"
 
+/* Lends what goes in beside the job, which must stay as it is, and holds the writer to the word and the bytes. */
+void hold_writer(const struct writer *writer, const uint8_t *in, size_t in_length, int32_t word, const uint8_t *out,
+                 size_t out_length);
 /* Holds ist_sheet to the reference on these bytes as costs, and ist_apply_sheet on the sheet. The job is the frame's if that is
  * not refused. */
 void check_costs(int refusal, const struct job *job, const uint8_t *costs, size_t length);

@@ -1,4 +1,5 @@
-/* Holds the reference to document 01's rows and to trying everything, and sheets and costs to each other, without the library.
+/* Holds the reference to document 01's rows and to trying everything, and sheets and costs to each other, without the library;
+ * and the logs tried must tell every wrong replay from the right one.
  *
  * Run: selftest [COUNT] [SEED]    COUNT random jobs (default 20000) besides the rows and all small jobs. */
 #include <stdio.h>
@@ -7,6 +8,8 @@
 
 #include "exhaustive.h"
 #include "generate.h"
+#include "mistakes.h"
+#include "packets.h"
 #include "rows.h"
 #include "vary.h"
 
@@ -15,6 +18,7 @@ static struct solution solution;
 static struct search search;
 static struct trees trees;
 static size_t jobs_searched, jobs_proved, jobs_unplugged, choices_judged, lists_judged, sheets_applied;
+static size_t logs_replayed, logs_judged, mistakes_found[MISTAKES];
 
 static void require(bool holds, const char *what)
 {
@@ -197,6 +201,79 @@ static void check_sheet(void)
     sheets_applied++;
 }
 
+static bool same_replay(const struct replay *one, const struct replay *other)
+{
+    return one->first == other->first && memcmp(one->cost, other->cost, job.edges * sizeof one->cost[0]) == 0;
+}
+
+/* No log whose final costs make the tree cheapest is shorter than the steps; all spanning trees say the same of every packet. */
+static void check_replay(const struct log *log, const struct replay *replay)
+{
+    static struct replay again;
+
+    require(deviation(&job, replay->cost) <= log->packets, "a packet moves one cost by at most 1");
+    require(replay->first >= solution.steps, "the packets of a log that makes the tree cheapest");
+    require(!is_cheapest(&job, replay->cost) || log->packets >= solution.steps, "the packets of a log that ends cheapest");
+    logs_replayed++;
+    if (job.edges > 6)
+        return;
+    find_trees(&job, &trees);
+    replay_log(&job, &trees, log, &again);
+    require(same_replay(replay, &again), "the replay and all spanning trees");
+    logs_judged++;
+}
+
+static void find_mistakes(const struct log *log, const struct replay *replay)
+{
+    static struct replay wrong;
+
+    for (size_t i = 0; i < MISTAKES; i++) {
+        replay_wrongly(i, &job, log, &wrong);
+        mistakes_found[i] += !same_replay(replay, &wrong);
+    }
+}
+
+/* A log in form, written and read again. */
+static void check_log(const struct plan *plan)
+{
+    static struct log log, again;
+    static struct replay replay;
+    static uint8_t bytes[SHEET_ROOM];
+
+    random_log(plan, &log);
+    require(read_log(&job, bytes, put_log(bytes, &log), &again), "a log is in form");
+    require(again.packets == log.packets && memcmp(again.packet, log.packet, log.packets * sizeof log.packet[0]) == 0,
+            "a log reads as the log");
+    replay_log(&job, NULL, &log, &replay);
+    check_replay(&log, &replay);
+    find_mistakes(&log, &replay);
+    wrong_log(plan, &log);
+    require(!read_log(&job, bytes, put_log(bytes, &log), &again), "a wrong log is refused");
+}
+
+/* The packets to best costs, in any order, make the tree cheapest with the last of them. */
+static void check_settling(const struct plan *plan)
+{
+    static struct log log;
+    static struct replay replay;
+
+    if (solution.steps > plan->most)
+        return;
+    log.packets = 0;
+    log_settling(plan, &log);
+    replay_log(&job, NULL, &log, &replay);
+    require(log.packets == solution.steps && replay.first == solution.steps, "the packets to best costs");
+}
+
+static void check_logs(void)
+{
+    struct plan plan = {&job, &solution, packets_for(&job)};
+
+    check_settling(&plan);
+    for (size_t i = 0; i < 3; i++)
+        check_log(&plan);
+}
+
 static void check_job(void)
 {
     check_round_trip();
@@ -205,6 +282,7 @@ static void check_job(void)
     solve(&job, &solution);
     check_by_proof();
     check_unplugged();
+    check_logs();
     if (job.edges <= 6 && solution.steps <= 4)
         check_by_search();
 }
@@ -296,6 +374,23 @@ static void check_sheet_row(const struct sheet_row *row)
     require_text(row->name, make_text, row->costs, row->sheet);
 }
 
+static void check_log_row(const struct log_row *row)
+{
+    static struct log log;
+    static struct replay replay;
+    uint8_t bytes[ROW_ROOM], wanted[ROW_ROOM], costs[ROW_ROOM];
+
+    read_row(row->job, 0);
+    require(read_log(&job, bytes, from_hex(row->log, bytes), &log) == (row->costs != NULL), row->name);
+    if (row->costs == NULL)
+        return;
+    replay_log(&job, NULL, &log, &replay);
+    require(replay.first == (row->first < 0 ? NEVER : (size_t)row->first), row->name);
+    size_t length = put_costs(costs, replay.cost, job.edges);
+    require(from_hex(row->costs, wanted) == length && memcmp(costs, wanted, length) == 0, row->name);
+    find_mistakes(&log, &replay);
+}
+
 static void check_thirteen(void)
 {
     read_row(thirteen, 0);
@@ -313,6 +408,8 @@ int main(int argc, char **argv)
         check_row(&rows[i]);
     for (size_t i = 0; i < SHEET_ROWS; i++)
         check_sheet_row(&sheet_rows[i]);
+    for (size_t i = 0; i < LOG_ROWS; i++)
+        check_log_row(&log_rows[i]);
     check_thirteen();
     each_small_job(check_small_job);
     for (long i = 0; i < count; i++) {
@@ -320,8 +417,11 @@ int main(int argc, char **argv)
         random_job(&job, large ? 64 : 5, large ? 256 : 6 + pick(6), large && pick(2) == 0);
         check_job();
     }
+    for (size_t i = 0; i < MISTAKES; i++)
+        require(mistakes_found[i] > 0, mistakes[i]);
     printf("selftest: %zu jobs proved by their matching, %zu of them searched whole, %zu with unplugged links, ", jobs_proved,
            jobs_searched, jobs_unplugged);
-    printf("%zu costs and %zu lists of pairs judged, %zu sheets applied\n", choices_judged, lists_judged, sheets_applied);
+    printf("%zu costs and %zu lists of pairs judged, %zu sheets applied, ", choices_judged, lists_judged, sheets_applied);
+    printf("%zu logs replayed, %zu of them by all spanning trees, %d mistakes found\n", logs_replayed, logs_judged, MISTAKES);
     return 0;
 }

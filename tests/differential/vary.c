@@ -268,11 +268,16 @@ static size_t other_bytes(const uint8_t *bytes, size_t length, uint8_t *to)
 
 typedef size_t spoil(const uint8_t *bytes, size_t length, uint8_t *to);
 
-static spoil *const spoils[] = {
+static spoil *const spoils[SPOILS] = {
     no_bytes,      last_byte_dropped, byte_appended, number_longer,   first_number_longer,
     number_larger, number_dropped,    number_twice,  number_appended, damage_frame,
     other_bytes,
 };
+
+size_t spoil_bytes(uint32_t which, const uint8_t *bytes, size_t length, uint8_t *to)
+{
+    return spoils[which](bytes, length, to);
+}
 
 static size_t count_changed(const struct sheet *sheet, uint8_t *to)
 {
@@ -284,8 +289,7 @@ static size_t count_changed(const struct sheet *sheet, uint8_t *to)
 
 enum {
     COSTS_KINDS = sizeof costs_kinds / sizeof costs_kinds[0],
-    SHEET_KINDS = sizeof sheet_kinds / sizeof sheet_kinds[0],
-    SPOILS = sizeof spoils / sizeof spoils[0]
+    SHEET_KINDS = sizeof sheet_kinds / sizeof sheet_kinds[0]
 };
 
 const uint32_t costs_variations = COSTS_KINDS + SPOILS, sheet_variations = SHEET_KINDS + SPOILS + 1;
@@ -300,7 +304,7 @@ size_t vary_costs(uint32_t which, const struct job *job, uint8_t *to)
         return put_costs(to, cost, job->edges);
     }
     random_costs(job, cost);
-    return spoils[which - COSTS_KINDS](right, put_costs(right, cost, job->edges), to);
+    return spoil_bytes(which - COSTS_KINDS, right, put_costs(right, cost, job->edges), to);
 }
 
 size_t vary_sheet(uint32_t which, const struct job *job, uint8_t *to)
@@ -315,5 +319,5 @@ size_t vary_sheet(uint32_t which, const struct job *job, uint8_t *to)
     sheet_right(job, &sheet);
     if (which == SHEET_KINDS + SPOILS)
         return count_changed(&sheet, to);
-    return spoils[which - SHEET_KINDS](right, put_sheet(right, &sheet), to);
+    return spoil_bytes(which - SHEET_KINDS, right, put_sheet(right, &sheet), to);
 }

@@ -4,6 +4,8 @@
 
 #include "sheets.h"
 
+enum { SPOILS = 11 };
+
 extern const uint32_t costs_variations, sheet_variations;
 
 void random_costs(const struct job *job, int32_t *cost);
@@ -11,5 +13,7 @@ void random_costs(const struct job *job, int32_t *cost);
 void random_sheet(const struct job *job, struct sheet *sheet);
 size_t vary_costs(uint32_t which, const struct job *job, uint8_t *to);
 size_t vary_sheet(uint32_t which, const struct job *job, uint8_t *to);
+/* Bytes of at most NUMBERS_MOST numbers with one thing made different. */
+size_t spoil_bytes(uint32_t which, const uint8_t *bytes, size_t length, uint8_t *to);
 
 #endif

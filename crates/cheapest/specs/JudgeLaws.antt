@@ -7,7 +7,7 @@ use mathlib.Core.Path.{_≡_, sym, ap, _∙_}
 use mathlib.Core.Logic.{inl, inr}
 use mathlib.Core.Bool.{Bool, true, false, not, xor, _&&_, _||_}
 use mathlib.Core.List.{List}
-use lib.Dec.{eqb}
+use lib.Dec.{leb, eqb}
 use lib.ListN.{getD, take}
 use lib.Seq.{length-take-le, getD-take}
 use Rattle.loops.specs.Below.{allBelow}
@@ -71,7 +71,7 @@ all-longer n m p l past =
     ]
 
 -- Ranks past the last lie between no nodes.
-across-past :
+pub across-past :
     (edges count : ℕ) (ranks as₁ as₂ mask : List ℕ) → Judged edges count ranks as₁ as₂ mask
     → (a b k : ℕ) → count ≤ k → across mask a b k ≡ false
 unfolding xor
@@ -95,14 +95,23 @@ judged-spare edges count falling ranks as₁ as₂ as₃ mask h f s l =
       | no b ↦ clash c (across-past edges count ranks as₁ as₂ mask h (getD as₁ s 0) (getD as₂ s 0) k (omega arith))
     ]
 
+-- The test of all links, at any costs, is the model's.
+pub judge-at :
+    (nodes edges count : ℕ) (ranks as₁ as₂ as₄ mask : List ℕ) (c : ℕ → ℕ) → Judged edges count ranks as₁ as₂ mask
+    → paths mask ≡ rooted (arrayGraph nodes edges as₁ as₂ as₄) (take count ranks) .path
+    → allBelow edges (λ s. not (arraySpare as₄ s)
+    || allBelow 64 (λ k. not (across mask (getD as₁ s 0) (getD as₂ s 0) k) || leb (c (getD ranks k 0)) (c s)))
+    ≡ judge (arrayGraph nodes edges as₁ as₂ as₄) (arrayTree as₄) c (take count ranks)
+unfolding judge
+judge-at nodes edges count ranks as₁ as₂ as₄ mask c h same =
+    all-same edges _ _ (λ s l. ap (λ b. not (arraySpare as₄ s) || b)
+    (sym (all-longer count 64 _ (omega (arith, h .few)) (λ k b. rw (across-past edges count ranks as₁ as₂ mask h (getD as₁ s 0) (getD as₂ s 0) k b)))
+    ∙ rw (length-take-le count ranks (h .within)) (all-same count _ _ (λ k b.
+    rw (across-covers nodes edges as₁ as₂ as₄ mask (take count ranks) same s k, getD-take count ranks k 0 b)))))
+
 pub judge-links :
     (nodes edges count : ℕ) (ranks as₁ as₂ as₃ as₄ mask : List ℕ) → Judged edges count ranks as₁ as₂ mask
     → paths mask ≡ rooted (arrayGraph nodes edges as₁ as₂ as₄) (take count ranks) .path
     → allBelow edges (linkHolds ranks as₁ as₂ as₃ as₄ mask)
     ≡ judge (arrayGraph nodes edges as₁ as₂ as₄) (arrayTree as₄) (arrayCost as₃) (take count ranks)
-unfolding judge
-judge-links nodes edges count ranks as₁ as₂ as₃ as₄ mask h same =
-    all-same edges _ _ (λ s l. ap (λ b. not (arraySpare as₄ s) || b)
-    (sym (all-longer count 64 _ (omega (arith, h .few)) (λ k b. rw (across-past edges count ranks as₁ as₂ mask h (getD as₁ s 0) (getD as₂ s 0) k b)))
-    ∙ rw (length-take-le count ranks (h .within)) (all-same count _ _ (λ k b.
-    rw (across-covers nodes edges as₁ as₂ as₄ mask (take count ranks) same s k, getD-take count ranks k 0 b)))))
+judge-links nodes edges count ranks as₁ as₂ as₃ as₄ mask h same = judge-at nodes edges count ranks as₁ as₂ as₄ mask (arrayCost as₃) h same

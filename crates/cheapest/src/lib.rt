@@ -14,7 +14,7 @@ use limits::is_spare;
 use paths::crossing;
 
 // The cost of the tree edge of rank k.
-fn cost_at(k: TreeRank, ranks: &[u32; 256], cost: &[u32; 256]) -> u32
+pub fn cost_at(k: TreeRank, ranks: &[u32; 256], cost: &[u32; 256]) -> u32
     requires { ⌜ (k .0 < 64) × (getD (now ranks) (k .0) 0 < 256) ⌝ }
     ensures { λ r. ⌜ r ≡ costAt (now (cost .entry)) (now (ranks .entry)) (k .0) ⌝ }
 {

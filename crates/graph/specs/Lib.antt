@@ -11,3 +11,4 @@ pub mod Sides
 pub mod Swap
 pub mod Criterion
 pub mod Tree
+pub mod Violations

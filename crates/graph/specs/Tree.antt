@@ -16,7 +16,7 @@ use Rattle.loops.specs.PutLaws.{put-same, put-other, put-kept, put-split}
 use Rattle.loops.specs.ScanLaws.{scan-keeps}
 use Rattle.loops.specs.FirstLaws.{First, first-is}
 use Rattle.loops.specs.TestLaws.{truth, clash, cond-both, choose-both, and-first, and-second, and-both}
-use Rattle.loops.specs.TestLaws.{and-miss, or-either, or-means, xor-means, all-at, all-of}
+use Rattle.loops.specs.TestLaws.{and-miss, same-test, or-either, or-means, xor-means, all-at, all-of}
 use Rattle.graph.specs.Graph.{Graph, Sound, EdgeSet, Leads, forth, back, Joined, count, SpanningTree, Minimum, Covers, spareOf}
 use Rattle.graph.specs.Rank.{Lists}
 use Rattle.graph.specs.Paths.{Rooted, root, attach, grow, touches, tryAt, expand, waits, expandAll, rooted, isTree, coversRank, judge}
@@ -336,6 +336,14 @@ module _ {g : Graph} (sound : Sound g) {tr : EdgeSet} {ranks : List ℕ} (lists 
   all-ends tree k l =
       let h : Grown g tr ranks (rooted g ranks) = rooted-end (omega (arith, tree .size)) .0 in
       h .ends k l (count-full (length ranks) (h .used) (omega (arith, h .one-more, all-found tree, tree .size, lists .size)) k l)
+
+  pub own-rank :
+      SpanningTree g tr → (k : ℕ) → k < length ranks → (j : ℕ) → coversRank g (rooted g ranks) (getD ranks k 0) j ≡ eqb k j
+  own-rank tree k l j =
+      let ends : Ends (rooted g ranks) k (g .end₁ (getD ranks k 0)) (g .end₂ (getD ranks k 0)) = all-ends tree k l in
+      same-test _ _
+      (λ h. elim (ℕ-discrete k j) [ yes e ↦ eq-eqb k j e | no d ↦ absurd (xor-means _ _ .0 h (ends .others j (λ e. d (sym e)))) ])
+      (λ h. rw (← eqb-true k j h) (xor-means _ _ .1 (ends .itself)))
 
   -- So "rank k is on the path of v" is a side function of that tree edge.
   rank-cut : SpanningTree g tr → (k : ℕ) → k < length ranks → Cut g tr (getD ranks k 0) (λ v. rooted g ranks .path v k)

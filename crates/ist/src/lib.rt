@@ -1,11 +1,13 @@
-// The library's functions for C (include/ist.h). Those on frames are handed on to the crates `ist_frames`, `ist_sheets`, `ist_finders`
-// and `ist_readers`; those over a lent list of records are in list.rt.
+// The library's functions for C (include/ist.h). Those on frames are handed on to the crates `ist_frames`, `ist_sheets`,
+// `ist_replays`, `ist_finders` and `ist_readers`; those over a lent list of records are in list.rt.
 ghost use Rattle.answering.specs.Answering.{Answered};
 ghost use Rattle.stepping.specs.Stepping.{SheetMade, SheetApplied};
+ghost use Rattle.replaying.specs.Replayed.{LogReplayed};
 ghost use Rattle.judging.specs.Verdicts.{TreeJudged, AnswerJudged};
 ghost use Rattle.finding.specs.Parts.{LinkLocated, CostLocated};
 ghost use Rattle.copying.specs.Copies.{JobCopied, AnswerCopied};
 ghost use Rattle.codes.specs.Exports.{Said, Replied, JobTold, AnswerTold};
+ghost use Rattle.ist_replays.specs.ReplayTold.{ReplayTold};
 
 pub mod list;
 
@@ -54,6 +56,21 @@ pub extern "C" fn ist_apply_sheet(
         (now (written .exit)) ⌝ }
 {
     ist_sheets::apply_sheet(job, sheet, area, written)
+}
+
+// Replays a packet log over the costs of a job frame, and writes the final costs into the area.
+#[no_mangle]
+pub extern "C" fn ist_replay(
+    job: &[u8],
+    log: &[u8],
+    area: &mut [u8],
+    written: &mut usize,
+    first: &mut usize,
+) -> i32
+    ensures { λ r. ⌜ ReplayTold (λ said. LogReplayed (now (job .entry)) (now (log .entry)) (now (area .entry)) said (now (area .exit))) r
+        (now (written .exit)) (now (first .exit)) ⌝ }
+{
+    ist_replays::replay(job, log, area, written, first)
 }
 
 // Where a link's four numbers stand in its job frame.

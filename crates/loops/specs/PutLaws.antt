@@ -30,3 +30,7 @@ put-back {A} f i x y h = fun-ext at-j
           | yes q ↦ rw (q, put-same (put f i x) i y) (sym h)
           | no q ↦ put-other (put f i x) i y j q ∙ put-other f i x j q
         ]
+
+-- The value that is there already.
+pub put-own : {A : Type 0} (f : ℕ → A) (i : ℕ) (x : A) → f i ≡ x → put f i x ≡ f
+put-own {A} f i x h = fun-ext λ j. elim (ℕ-discrete j i) [ yes q ↦ rw (q, put-same f i x) (sym h) | no q ↦ put-other f i x j q ]

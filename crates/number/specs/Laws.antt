@@ -169,6 +169,25 @@ begins-wider (more l p e r) = more l p e (begins-wider r)
 pub decode-wider : (k : ℕ) (s : List ℕ) (v n : ℕ) → decode k s ≡ number v n → decode (suc k) s ≡ number v n
 decode-wider k s v n e = begins-decode (begins-wider (decode-begins k s v n e))
 
+-- A number that fits into k bytes has the same form where more are allowed.
+encode-last : (k x : ℕ) → x < 128 → encode (suc k) x ≡ x ∷ []
+unfolding encode
+encode-last k x l = rw (lt-ltb x 128 l)
+
+encode-more : (k x : ℕ) → 128 ≤ x → encode (suc k) x ≡ (x % 128 + 128) ∷ encode k (x / 128)
+unfolding encode
+encode-more k x l = rw (le-ltb x 128 l)
+
+pub encode-wider : (k x : ℕ) → 0 < k → x < 128 ^ k → encode (suc k) x ≡ encode k x
+encode-wider zero x p h = absurd (omega arith)
+encode-wider (suc k) x p h =
+    elim (decLt x 128) [
+      | yes l ↦ rw (encode-last (suc k) x l, encode-last k x l)
+      | no l ↦ let top : x / 128 < 128 ^ k = omega (arith, pow-suc 128 k) in
+          let rest = encode-wider k (x / 128) (more-bytes k (x / 128) (omega arith) top) top in
+          rw (encode-more (suc k) x (omega arith), encode-more k x (omega arith), rest)
+    ]
+
 -- Two different byte strings never read as the same number.
 pub decode-injective :
     (k : ℕ) (s s′ : List ℕ) (v : ℕ) →

@@ -66,23 +66,25 @@ linked s h (number e′ n) q e z k g = coded-behind s e′ n h q (decode changeB
 pub entry-read : (s : List ℕ) → Bytes s → (e z k : ℕ) → entryOf s ≡ entry e z k → InFront s e z k
 entry-read s h e z k g = linked s h (decode changeBytes s) refl e z k g
 
--- It ends within the bytes.
+-- It takes two bytes at least, and ends within the bytes.
 size-behind :
-    (s : List ℕ) (e′ n : ℕ) → n ≤ length s → (r : Decoded) → decode changeBytes (drop n s) ≡ r
-    → (e z k : ℕ) → withCode e′ n r ≡ entry e z k → k ≤ length s
+    (s : List ℕ) (e′ n : ℕ) → 0 < n → n ≤ length s → (r : Decoded) → decode changeBytes (drop n s) ≡ r
+    → (e z k : ℕ) → withCode e′ n r ≡ entry e z k → (2 ≤ k) × (k ≤ length s)
 unfolding withCode
-size-behind s e′ n l Decoded.none f e z k g = let z : _≡_ {A = ℕ} 0 1 = cc in absurd (omega arith)
-size-behind s e′ n l (number z′ k′) f e z k g =
+size-behind s e′ n p l Decoded.none f e z k g = let z : _≡_ {A = ℕ} 0 1 = cc in absurd (omega arith)
+size-behind s e′ n p l (number z′ k′) f e z k g =
     let size : n + k′ ≡ k = cc in
     omega (arith, size, decode-size changeBytes (drop n s) z′ k′ f, length-drop n s)
 
-size-linked : (s : List ℕ) (r : Decoded) → decode changeBytes s ≡ r → (e z k : ℕ) → withLink s r ≡ entry e z k → k ≤ length s
+size-linked :
+    (s : List ℕ) (r : Decoded) → decode changeBytes s ≡ r → (e z k : ℕ) → withLink s r ≡ entry e z k → (2 ≤ k) × (k ≤ length s)
 unfolding withLink
 size-linked s Decoded.none q e z k g = let z : _≡_ {A = ℕ} 0 1 = cc in absurd (omega arith)
 size-linked s (number e′ n) q e z k g =
-    size-behind s e′ n (omega (arith, decode-size changeBytes s e′ n q)) (decode changeBytes (drop n s)) refl e z k g
+    let (p, l, _) = decode-size changeBytes s e′ n q in
+    size-behind s e′ n p l (decode changeBytes (drop n s)) refl e z k g
 
-pub entry-size : (s : List ℕ) (e z k : ℕ) → entryOf s ≡ entry e z k → k ≤ length s
+pub entry-size : (s : List ℕ) (e z k : ℕ) → entryOf s ≡ entry e z k → (2 ≤ k) × (k ≤ length s)
 entry-size s e z k g = size-linked s (decode changeBytes s) refl e z k g
 
 -- Written and read again.

@@ -177,6 +177,12 @@ module _ (m : ℕ) (few : m ≤ maxEdges) (c : ℕ → ℕ) (old : InRange m c) 
   pub costs-means : Bytes s → (costsBytes m c s ≡ some f) ↔ Translated m c s f
   costs-means h = (costs-translated h, translated-costs)
 
+-- Costs of up to 256 links have at most 768 bytes.
+pub costs-most : (m : ℕ) → m ≤ maxEdges → (d : ℕ → ℕ) → length (costsFrame m d) ≤ costsMost
+costs-most m few d =
+    let ns = tabulate m d in
+    omega (arith, bytes-most numberBytes ns (λ i. encode-size-most numberBytes (getD ns i 0)), length-tabulate d m, few)
+
 -- ---- when there is one
 
 pub found-some : {A : Type 0} (o : Option A) → isSome o ≡ true → (x : A) × (o ≡ some x)
@@ -223,15 +229,7 @@ module _ (m : ℕ) (few : m ≤ maxEdges) (c : ℕ → ℕ) (old : InRange m c) 
     translated-most = omega (arith, ap length (ap sheetFrame moves-are ∙ t .sheet .joined), sheet-most c (t .new) m few)
 
     pub translated-costs-most : length f ≤ costsMost
-    translated-costs-most =
-        let ns = tabulate m (t .new) in
-        omega (
-          arith,
-          ap length (t .costs .joined),
-          bytes-most numberBytes ns (λ i. encode-size-most numberBytes (getD ns i 0)),
-          length-tabulate (t .new) m,
-          few,
-        )
+    translated-costs-most = omega (arith, ap length (t .costs .joined), costs-most m few (t .new))
 
     -- The costs are the numbers of the bytes.
     pub translated-costs-are : (ns : List ℕ) → Divides f ns → (e : ℕ) → e < m → t .new e ≡ getD ns e 0

@@ -1,0 +1,1 @@
+// Packet logs over a job: definitions, model and theorems are in specs/.

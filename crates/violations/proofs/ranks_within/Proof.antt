@@ -1,0 +1,147 @@
+-- `violations::ranks_within` meets its contract. The loop's invariant: what is found and what is left to be found make the whole.
+-- The measure falls as the lowest rank rises. Assumes nothing.
+use Prim.Native.Nat.{ℕ, _+_, _-_, _^_, _<_}
+use native.Mathlib.Omega.{arith}
+use mathlib.Core.Path.{_≡_, refl, sym, ap, _∙_}
+use mathlib.Core.Logic.{⊎-elim}
+use mathlib.Core.Bool.{Bool, true, _&&_}
+use borrow.Author.Needs.{needs}
+use lib.ListN.{getD}
+use Rattle.loops.specs.Below.{sum}
+use Rattle.loops.specs.Loop.{first}
+use Rattle.bits.specs.Bit.{bit}
+use Rattle.graph.specs.Rank.{costAt}
+use Rattle.graph.specs.Violations.{one, ones-most}
+use Rattle.paths.specs.Arrays.{across}
+use Rattle.paths.specs.WordLaws.{lowest-below, lowest-set, word-part, word-less}
+use Rattle.violations.specs.Counting.{costsWithin, AsksWithin}
+use Rattle.violations.specs.CountingLaws.{wordOnes, ones-start, ones-end, turn-yes, turn-no}
+use Rattle.violations.proofs.ranks_within.Statement.{statement}
+use Rattle.violations.proofs.ranks_within.Tie as tie
+
+abbrev Inv-loop : tie.InvT-loop
+Inv-loop low high ranks end1 end2 cost mask s a b left₀ found₀ left found =
+    ((p : ℕ → Bool) → AsksWithin low high p
+    → found + wordOnes (λ k. p (costAt cost ranks k)) left ≡ sum 64 (λ k. one (across mask a b k && p (costAt cost ranks k)))) ×
+    (left < 2 ^ 64) ×
+    ((k : ℕ) → bit left k ≡ true → getD ranks k 0 < 256)
+
+abbrev μ-loop : tie.MeasureT-loop
+μ-loop low high ranks end1 end2 cost mask s a b left₀ found₀ left found = 64 - first 64 (bit left)
+
+-- the cost of a rank passes
+abbrev priced : tie.Start Inv-loop μ-loop → (ℕ → Bool) → ℕ → Bool
+priced s p k = p (costAt (s .args .cost .now) (s .args .ranks .now) k)
+
+abbrev start : tie.At-loop Inv-loop μ-loop → tie.Start Inv-loop μ-loop
+start l = l .before .before .before .before .before
+
+cast-s : tie.Need-cast-s Inv-loop μ-loop
+cast-s c = omega arith
+
+mul-a : tie.Need-mul-a Inv-loop μ-loop
+mul-a c = omega arith
+
+element-copy-out-a : tie.Need-element-copy-out-a Inv-loop μ-loop
+element-copy-out-a c = omega arith
+
+mul-b : tie.Need-mul-b Inv-loop μ-loop
+mul-b c = omega arith
+
+element-copy-out-b : tie.Need-element-copy-out-b Inv-loop μ-loop
+element-copy-out-b c = omega arith
+
+crossing-requires : tie.Need-crossing-requires Inv-loop μ-loop
+crossing-requires c κs = omega arith
+
+loop-holds : tie.Need-loop-holds Inv-loop μ-loop
+loop-holds c =
+    let x = c .crossing in
+    let s = c .before .before .before .before in (
+      λ p asks. ones-start (priced s p) _ (x .result) (x .ensures),
+      omega arith,
+      λ k h. s .pre .1 k (sym (x .ensures k) ∙ h),
+    )
+
+lowest-requires : tie.Need-lowest-requires Inv-loop μ-loop
+lowest-requires c κs = tt
+
+cost-at-requires : tie.Need-cost-at-requires Inv-loop μ-loop
+cost-at-requires c κs =
+    let l = c .before .before .loop in
+    let k = c .lowest in
+    let some : 0 < l .left = omega arith in (
+      lowest-below (l .left) some (l .inv .1) (k .result) (k .ensures),
+      l .inv .2 (k .result) (lowest-set (l .left) some (l .inv .1) (k .result) (k .ensures)),
+    )
+
+is-within-requires : tie.Need-is-within-requires Inv-loop μ-loop
+is-within-requires c κs = search needs
+
+add-found : tie.Need-add-found Inv-loop μ-loop
+add-found c =
+    let l = c .before .before .before .before .before in
+    let a = start l .args in
+    omega (
+      arith,
+      l .loop .inv .0 (costsWithin (a .low) (a .high)) (λ x h. refl),
+      ones-most 64 (λ k. across (a .mask .now) (getD (a .end1 .now) (a .link .0) 0) (getD (a .end2 .now) (a .link .0) 0) k
+          && costsWithin (a .low) (a .high) (costAt (a .cost .now) (a .ranks .now) k)),
+    )
+
+without-lowest-requires : tie.Need-without-lowest-requires Inv-loop μ-loop
+without-lowest-requires c κs = omega arith
+
+loop-less : tie.Need-loop-less Inv-loop μ-loop
+loop-less c =
+    let k = c .before .before .before .before in
+    let l = k .before .before .loop in
+    word-less (l .left) (omega arith) (l .inv .1) (k .lowest .result) (k .lowest .ensures) (c .without-lowest .result) (c .without-lowest .ensures)
+
+loop-again : tie.Need-loop-again Inv-loop μ-loop
+loop-again c =
+    let m = c .before .before in
+    let p = m .before in
+    let k = p .before in
+    let l = k .before .before in
+    let r = c .without-lowest in
+    let some : 0 < l .loop .left = omega arith in (
+      λ q asks.
+          let told = ap q (sym (p .cost-at .ensures)) ∙ asks (p .cost-at .result) (omega arith) ∙ sym (m .is-within .ensures) in
+          ⊎-elim
+          (λ w. rw (w .1) (turn-yes (priced (start l) q) (l .loop .found) _ (l .loop .left) (l .loop .inv .0 q asks) some (l .loop .inv .1)
+          (k .lowest .result) (k .lowest .ensures) (r .result) (r .ensures) (told ∙ w .0 .taken)))
+          (λ w. rw (w .1) (turn-no (priced (start l) q) (l .loop .found) _ (l .loop .left) (l .loop .inv .0 q asks) some (l .loop .inv .1)
+          (k .lowest .result) (k .lowest .ensures) (r .result) (r .ensures) (told ∙ w .0 .left)))
+          (c .before .if1 .came),
+      omega arith,
+      λ j h. l .loop .inv .2 j
+          (word-part (l .loop .left) some (l .loop .inv .1) (k .lowest .result) (k .lowest .ensures) (r .result) (r .ensures) j h),
+    )
+
+returns : tie.Need-returns Inv-loop μ-loop
+returns c = λ p asks.
+    let l = c .before in
+    ones-end (priced (start l) p) (l .loop .found) _ (l .loop .left) (l .loop .inv .0 p asks) (c .loop-test .left)
+
+pub ranks-within-spec : {M : Type 1} → statement M
+ranks-within-spec =
+    tie.close
+    (tie.spec
+    Inv-loop
+    μ-loop
+    cast-s
+    mul-a
+    element-copy-out-a
+    mul-b
+    element-copy-out-b
+    crossing-requires
+    loop-holds
+    lowest-requires
+    cost-at-requires
+    is-within-requires
+    add-found
+    without-lowest-requires
+    loop-less
+    loop-again
+    returns)
