@@ -1,11 +1,12 @@
 // Runs the remaining rows: refusals, areas that are just too short, the example of 13 steps, answers made elsewhere, the
-// finders, the readers, step sheets, small trees, and the longest job with the longest answer. The rows T1 to T9 are proved
+// finders, the readers, step sheets, packet logs, small trees, and the longest job with the longest answer. The rows T1 to T9 are proved
 // (specs/Rows.antt).
 use ids::Edge;
 use judging::Verdict;
 use leb128::Number;
 use records::Link;
 use records::ListCopy;
+use replaying::When;
 
 fn print_byte(byte: u8) {
     io::write_all(1, b" ");
@@ -308,6 +309,40 @@ fn applied(t1: &[u8]) {
     show_applied(b"no link", b"\x01\x00", b"\x00");
 }
 
+fn print_when(when: When) {
+    match when {
+        When::After(count) => {
+            io::write_all(1, b", cheapest after ");
+            io::print_decimal(1, count as u64);
+        }
+        When::Never => {
+            io::write_all(1, b", never cheapest");
+        }
+    }
+}
+
+// Replays a log in an area of five bytes AA, and shows the number, the first number of packets and the whole area.
+fn show_replay(name: &[u8], frame: &[u8], log: &[u8]) {
+    let mut area = [170u8; 5];
+    let said = replaying::replay(frame, log, &mut area);
+    print_reply(name, said.refusal, said.length);
+    let first = said.first;
+    print_when(first);
+    io::write_all(1, b", area");
+    print_bytes(&area);
+}
+
+fn replays(t1: &[u8]) {
+    let late = b"\x00\x00\x02\x01\x02\x01\x03\x01";
+    show_replay(b"the answer's packets", t1, b"\x00\x00\x02\x01\x02\x01");
+    show_replay(b"one back", t1, b"\x00\x00\x02\x01\x02\x01\x02\x00");
+    show_replay(b"down from 0", t1, b"\x02\x00\x02\x00\x02\x00");
+    show_replay(b"no link, no packet", b"\x01\x00", b"");
+    show_replay(b"cheapest, then link 3", t1, late);
+    show_replay(b"80 80 80 01", t1, b"\x80\x80\x80\x01");
+    show_replay(b"a log for no tree", b"\x40\x00", b"\x00");
+}
+
 // Two stations, a tree link of cost 5 and a link of cost 3 that is laid but not plugged.
 fn unplugged() {
     let job = b"\x02\x02\x00\x01\x05\x01\x00\x01\x03\x02";
@@ -469,6 +504,7 @@ fn main() {
     );
     sheets(t1);
     applied(t1);
+    replays(t1);
     unplugged();
     trees();
     longest();
