@@ -1,5 +1,6 @@
 -- The reader of packets, by the steps of the code: what is known after each, and what the model then gives. Assumes nothing.
-use Prim.Native.Nat.{ℕ, _+_, _-_, _<_, _≤_}
+use Prim.Native.Nat.{ℕ, suc, _+_, _*_, _-_, _<_, _≤_}
+use native.Mathlib.Decide.{ℕ-discrete, decLt}
 use native.Mathlib.Numerals.{add-one}
 use native.Mathlib.Omega.{arith}
 use mathlib.Core.Path.{_≡_, refl, sym, ap, _∙_}
@@ -7,15 +8,19 @@ use mathlib.Core.Bool.{Bool, true, false}
 use mathlib.Core.List.{List, _∷_}
 use mathlib.Core.Option.{Option, some, none, Option·map}
 use lib.Dec.{eqb}
-use lib.ListN.{length, set, drop}
-use borrow.Author.Tests.{lt-leb, lt-ltb, le-ltb}
-use Rattle.limits.specs.Limits.{maxNumber}
+use lib.ListN.{length, getD, set, drop, length-drop}
+use lib.Seq.{drop-cons, drop-drop}
+use borrow.Author.Tests.{eq-eqb, ne-eqb, lt-leb, lt-ltb, le-ltb}
+use Rattle.limits.specs.Limits.{maxNumber, changeBytes}
 use Rattle.loops.specs.Below.{choose}
 use Rattle.loops.specs.Loop.{put}
+use Rattle.number.specs.Number.{Decoded, extend, decode}
+use Rattle.number.specs.Number.Decoded.{number}
+use Rattle.number.specs.Laws.{decode-size}
+use Rattle.leb128.specs.Positions.{readAt, located-value, located-refused}
+use Rattle.leb128.specs.declared.Number.the-variants as Read
 use Rattle.sheet.specs.Reading as Model
-use Rattle.sheet.specs.Reading.{costsAt, entryOf}
-use Rattle.sheet_read.specs.declared.Entry.the-variants as Read
-use Rattle.sheet_read.specs.Applying.{entered, entryAt}
+use Rattle.sheet.specs.Reading.{costsAt, withCode, withLink, entryOf}
 use Rattle.sheet_read.specs.ApplyLaws.{set-put}
 use Rattle.replay.specs.Log as Log
 use Rattle.replay.specs.Log.{stepped, heard, replayed}
@@ -24,40 +29,84 @@ use Rattle.replay.specs.LogLaws.{packet-is, is-packet, log-end, log-unread, log
 use Rattle.packets.specs.declared.Packet.the-variants.{Step, Refused}
 use Rattle.packets.specs.Packets.{packetFrom, packetAt}
 
--- ---- one packet, from the two numbers
+-- ---- one packet: a link, and behind it the byte of its direction
+
+-- A number of one byte; and one that begins with a byte above 1 is above 1 itself.
+decode-one : (k b : ℕ) (s : List ℕ) → b < 128 → decode (suc k) (b ∷ s) ≡ number b 1
+unfolding decode
+decode-one k b s l = rw (lt-ltb b 128 l)
+
+extend-above : (low : ℕ) (x : Decoded) (v n : ℕ) → extend low x ≡ number v n → 1 < v
+unfolding extend
+extend-above low Decoded.none v n e = let z : _≡_ {A = ℕ} 0 1 = cc in absurd (omega arith)
+extend-above low (number w k) v n e =
+    elim (ℕ-discrete w 0) [
+      | yes z ↦ let none-is : Decoded.none ≡ number v n = rw (eq-eqb w 0 z) at e in let q : _≡_ {A = ℕ} 0 1 = cc in absurd (omega arith)
+      | no z ↦
+          let whole : number (low + 128 * w) (suc k) ≡ number v n = rw (ne-eqb w 0 z) at e in
+          let same : low + 128 * w ≡ v = cc in
+          omega (arith, same)
+    ]
+
+decode-above : (k b : ℕ) (s : List ℕ) → 1 < b → (v n : ℕ) → decode (suc k) (b ∷ s) ≡ number v n → 1 < v
+unfolding decode
+decode-above k b s l v n e =
+    elim (decLt b 128) [
+      | yes h ↦ let one-byte : number b 1 ≡ number v n = rw (lt-ltb b 128 h) at e in let same : b ≡ v = cc in omega (arith, same)
+      | no h ↦ extend-above (b - 128) (decode k s) v n (rw (le-ltb b 128 (omega arith)) at e)
+    ]
 
 module _ (m : ℕ) (s : List ℕ) (at : ℕ) where
-  pub packet-unread : Read.Refused ≡ entryAt s at → Refused ≡ packetAt m s at
-  unfolding entered packetFrom
-  packet-unread q = of (entryOf (drop at s)) q
-    where
-      of : (x : Model.Entry) → Read.Refused ≡ entered at x → Refused ≡ packetFrom m at x
-      of (Model.Entry.entry e d k) q = let z : _≡_ {A = ℕ} 0 1 = cc in absurd (omega arith)
-      of Model.Entry.unread q = refl
+  pub packet-unread : readAt changeBytes s at ≡ Read.Refused → Refused ≡ packetAt m s at
+  unfolding withLink packetFrom
+  packet-unread e = rw (located-refused at (decode changeBytes (drop at s)) e)
 
-  module _ (e d next : ℕ) (q : Read.Moved e d next ≡ entryAt s at) where
-    by-numbers : packetAt m s at ≡ choose (isPacket m e d) (λ _. Step e (eqb d 1) next) (λ _. Refused)
-    unfolding entered packetFrom
-    by-numbers = of (entryOf (drop at s)) q
+  module _ (e middle : ℕ) (q : readAt changeBytes s at ≡ Read.Value e middle) where
+    -- What stands behind the link decides.
+    linked : (n : ℕ) × (middle ≡ at + n) × (packetAt m s at ≡ packetFrom m at (withCode e n (decode changeBytes (drop middle s))))
+    unfolding withLink
+    linked =
+        let (n, here, there) = located-value at (decode changeBytes (drop at s)) e middle q in
+        (n, there, behind n here there)
       where
-        of :
-            (x : Model.Entry) → Read.Moved e d next ≡ entered at x
-            → packetFrom m at x ≡ choose (isPacket m e d) (λ _. Step e (eqb d 1) next) (λ _. Refused)
-        of (Model.Entry.entry e′ d′ k) q =
-            let edge : e ≡ e′ = cc in
-            let second : d ≡ d′ = cc in
-            let there : next ≡ at + k = cc in
-            rw (edge, second, there)
-        of Model.Entry.unread q = let z : _≡_ {A = ℕ} 0 1 = cc in absurd (omega arith)
+        behind :
+            (n : ℕ) → decode changeBytes (drop at s) ≡ number e n → middle ≡ at + n
+            → packetAt m s at ≡ packetFrom m at (withCode e n (decode changeBytes (drop middle s)))
+        behind n here there = rw (here, drop-drop n at s, ← there)
+
+    -- No packet, whatever the second number is.
+    barred : ((v n : ℕ) → decode changeBytes (drop middle s) ≡ number v n → isPacket m e v ≡ false) → Refused ≡ packetAt m s at
+    unfolding withCode packetFrom
+    barred no-packet = let (n, there, whole) = linked in sym (whole ∙ of n (decode changeBytes (drop middle s)) refl)
+      where
+        of : (n : ℕ) (x : Decoded) → decode changeBytes (drop middle s) ≡ x → packetFrom m at (withCode e n x) ≡ Refused
+        of n Decoded.none f = refl
+        of n (number v k) f = rw (no-packet v k f)
 
     pub packet-outside : m ≤ e → Refused ≡ packetAt m s at
-    packet-outside l = sym (by-numbers ∙ rw (le-ltb e m l))
+    packet-outside l = barred (λ v n f. rw (le-ltb e m l))
 
-    pub packet-undirected : e < m → 1 < d → Refused ≡ packetAt m s at
-    packet-undirected l k = sym (by-numbers ∙ rw (lt-ltb e m l, lt-leb d 1 k))
+    pub packet-cut : length s ≤ middle → Refused ≡ packetAt m s at
+    packet-cut l =
+        barred λ v n f. absurd (omega (arith, decode-size changeBytes (drop middle s) v n f, length-drop middle s))
 
-    pub packet-whole : e < m → d ≤ 1 → Step e (eqb d 1) next ≡ packetAt m s at
-    packet-whole l k = sym (by-numbers ∙ rw (is-packet m e d l k))
+    pub packet-undirected : e < m → middle < length s → 1 < getD s middle 0 → Refused ≡ packetAt m s at
+    packet-undirected l h k =
+        barred λ v n f.
+        let above : 1 < v = decode-above 3 (getD s middle 0) (drop (suc middle) s) k v n (rw (drop-cons s middle 0 h) at f) in
+        rw (lt-ltb e m l, lt-leb v 1 above)
+
+    pub packet-whole : e < m → middle < length s → getD s middle 0 ≤ 1 → Step e (eqb (getD s middle 0) 1) (middle + 1) ≡ packetAt m s at
+    unfolding withCode packetFrom
+    packet-whole l h k =
+        let (n, there, whole) = linked in
+        let behind : at + (n + 1) ≡ middle + 1 = omega (arith, there) in
+        sym (whole ∙ rw (
+          drop-cons s middle 0 h,
+          decode-one 3 (getD s middle 0) (drop (suc middle) s) (omega arith),
+          is-packet m e (getD s middle 0) l k,
+          behind,
+        ))
 
 -- ---- a step of a cost
 

@@ -10,8 +10,8 @@ ghost use Rattle.sheet_read.specs.Applying.{given};
 ghost use Rattle.replay.specs.Log.{stepped, replayed};
 ghost use Rattle.replay.specs.LogReading.{readLog};
 ghost use Rattle.packets.specs.Packets.{packetAt};
+use leb128::Number;
 use limits::MOST_NUMBER;
-use sheet_read::Entry;
 
 // What stands at a position of a log.
 pub enum Packet {
@@ -25,17 +25,22 @@ pub enum Packet {
 pub fn packet_at(log: &[u8], at: usize, edges: usize) -> Packet
     ensures { λ r. ⌜ r ≡ packetAt edges (now (log .entry)) at ⌝ }
 {
-    let entry = sheet_read::entry_at(log, at);
-    let Entry::Moved(edge, direction, next) = entry else {
+    let number = leb128::read_long(log, at);
+    let Number::Value(edge, middle) = number else {
         return Packet::Refused;
     };
     if edges <= edge as usize {
         return Packet::Refused;
     }
+    if log.len() <= middle {
+        return Packet::Refused;
+    }
+    // 0 and 1 in shortest form are one byte.
+    let direction = log[middle];
     if 1 < direction {
         return Packet::Refused;
     }
-    Packet::Step(edge, direction == 1, next)
+    Packet::Step(edge, direction == 1, middle + 1)
 }
 
 // A cost after one step; one that would leave 0 to 2,097,151 stays.

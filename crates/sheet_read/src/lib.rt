@@ -28,8 +28,8 @@ pub enum Cost {
     Outside,
 }
 
-// The entry at a position: a link and the code of its change; or the two numbers of a packet, if it is a log.
-pub fn entry_at(sheet: &[u8], at: usize) -> Entry
+// The entry at a position.
+fn entry_at(sheet: &[u8], at: usize) -> Entry
     ensures { λ r. ⌜ r ≡ entryAt (now (sheet .entry)) at ⌝ }
 {
     let first = leb128::read_long(sheet, at);

@@ -2,7 +2,6 @@
 -- no violation exactly if the judge says yes. Assumes nothing.
 use Prim.Native.Nat.{ℕ, zero, suc, _+_, _*_, _^_, _≤_, _<_}
 use native.Mathlib.Decide.{decLt}
-use native.Mathlib.Nat.{zero-add}
 use native.Mathlib.Omega.{arith}
 use mathlib.Core.Path.{_≡_, refl, sym, ap, _∙_}
 use mathlib.Core.Logic.{inl, inr}
@@ -56,9 +55,9 @@ module _ (p : ℕ → Bool) (e found : ℕ) (so-far : found ≡ sum e (λ i. one
 abbrev pub wordOnes : (ℕ → Bool) → ℕ → ℕ
 wordOnes p w = sum 64 (λ k. one (bit w k && p k))
 
--- The word of the ranks q, of which none has been passed.
-pub ones-start : (p q : ℕ → Bool) (w : ℕ) → ((k : ℕ) → bit w k ≡ q k) → 0 + wordOnes p w ≡ sum 64 (λ k. one (q k && p k))
-ones-start p q w same = rw (zero-add (wordOnes p w)) (sum-same 64 _ _ (λ k l. rw (same k) refl))
+-- The word of the ranks q.
+pub ones-word : (p q : ℕ → Bool) (w : ℕ) → ((k : ℕ) → bit w k ≡ q k) → wordOnes p w ≡ sum 64 (λ k. one (q k && p k))
+ones-word p q w same = sum-same 64 _ _ (λ k l. rw (same k) refl)
 
 -- So many have been found, and the rest stands in the word w.
 module _ (p : ℕ → Bool) (found whole w : ℕ) (rest : found + wordOnes p w ≡ whole) where

@@ -17,7 +17,6 @@ use Rattle.loops.specs.FirstLaws.{First, first-found}
 use Rattle.loops.specs.PutLaws.{put-same, put-other}
 use Rattle.loops.specs.SumLaws.{sum-same}
 use Rattle.loops.specs.TestLaws.{truth, clash, and-first, and-second, and-miss}
-use Rattle.bits.specs.Bit.{bit}
 use Rattle.graph.specs.Rank.{costAt}
 use Rattle.graph.specs.CountLaws.{member-differs}
 use Rattle.graph.specs.Violations.{one, violations, tree-up, spare-up, violations-same}
@@ -75,14 +74,13 @@ module _ (edges count : ℕ) (ranks as₁ as₂ as₄ mask : List ℕ) (h : Coun
     names : getD ranks k 0 ≡ e
 
   rank-of :
-      (e w k : ℕ) → e < edges → arrayTree as₄ e ≡ true → ((j : ℕ) → bit w j ≡ across mask (getD as₁ e 0) (getD as₂ e 0) j)
-      → k ≡ first 64 (bit w) → RankOf e k
-  rank-of e w k l t same low =
+      (e k : ℕ) → e < edges → arrayTree as₄ e ≡ true → k ≡ first 64 (across mask (getD as₁ e 0) (getD as₂ e 0)) → RankOf e k
+  rank-of e k l t low =
       let (i, m, q) = h .lists .every e l t in
       let below : i < count = omega (arith, size) in
       let names : getD ranks i 0 ≡ e = sym (getD-take count ranks i 0 below) ∙ q in
-      let own : (j : ℕ) → bit w j ≡ eqb i j = λ j. same j ∙ rw names at (h .own i below j) in
-      let found : First 64 (bit w) i =
+      let own : (j : ℕ) → across mask (getD as₁ e 0) (getD as₂ e 0) j ≡ eqb i j = λ j. rw names at (h .own i below j) in
+      let found : First 64 (across mask (getD as₁ e 0) (getD as₂ e 0)) i =
       record {
         within = omega (arith, h .judged .few);
         before = λ j b. own j ∙ ne-eqb i j (λ r. omega (arith, r));
@@ -184,10 +182,9 @@ module _ (edges count : ℕ) (ranks as₁ as₂ as₄ mask : List ℕ) (h : Coun
     fallen : new ≤ old → getD as₃ e 0 ≡ suc (getD (set as₃ e new) e 0)
     fallen l = step .from ∙ step-fallen l ∙ ap suc (sym after-at)
 
-    module _ (t : arrayTree as₄ e ≡ true) (w k : ℕ) (same : (j : ℕ) → bit w j ≡ across mask (getD as₁ e 0) (getD as₂ e 0) j)
-        (low : k ≡ first 64 (bit w)) where
+    module _ (t : arrayTree as₄ e ≡ true) (k : ℕ) (low : k ≡ first 64 (across mask (getD as₁ e 0) (getD as₂ e 0))) where
       own : RankOf e k
-      own = rank-of e w k (step .inside) t same low
+      own = rank-of e k (step .inside) t low
 
       pub tree-below : k < 64
       tree-below = omega (arith, own .below, h .judged .few)

@@ -5,7 +5,8 @@ ghost use mathlib.Core.Bool.{Bool, true, _&&_};
 ghost use Prim.Native.Nat.{ℕ, _≤_, _<_};
 ghost use lib.Dec.{eqb};
 ghost use lib.ListN.{getD, set};
-ghost use Rattle.paths.specs.Arrays.{arrayTree, arraySpare, across};
+ghost use Rattle.bits.specs.Bit.{bit};
+ghost use Rattle.paths.specs.Arrays.{across};
 ghost use Rattle.violations.specs.Counting.{overAt, violationsAt, sparesAt, costsWithin, AsksWithin, ranksThat, Joins, Countable, StepOf};
 use cheapest::cost_at;
 use ids::Edge;
@@ -13,8 +14,18 @@ use ids::Node;
 use ids::TreeRank;
 use limits::is_spare;
 use limits::is_tree;
-use paths::covers;
 use paths::crossing;
+
+// The ranks of the tree edges between the ends of a link.
+fn between_ends(link: Edge, end1: &[u32; 256], end2: &[u32; 256], mask: &[u64; 64]) -> u64
+    requires { ⌜ Joins (link .0) (now end1) (now end2) ⌝ }
+    ensures { λ r. ⌜ ((k : ℕ) → bit r k ≡ across (now (mask .entry)) (getD (now (end1 .entry)) (link .0) 0) (getD (now (end2 .entry)) (link .0) 0) k) ⌝ }
+{
+    let s = link.0 as usize;
+    let a = end1[s];
+    let b = end2[s];
+    crossing(mask, Node(a), Node(b))
+}
 
 // Does a link cost x, is it spare, and does it lie over the tree edge of rank k?
 fn meets(
@@ -38,9 +49,7 @@ fn meets(
     if !is_spare(mark[s]) {
         return false;
     }
-    let a = end1[s];
-    let b = end2[s];
-    covers(mask, Node(a), Node(b), k)
+    bits::has(between_ends(link, end1, end2, mask), k.0)
 }
 
 // How many spares over the tree edge of rank k cost x?
@@ -95,10 +104,7 @@ fn ranks_within(
     ensures { λ r. ⌜ ((p : ℕ → Bool) → AsksWithin low high p
         → r ≡ ranksThat (now (ranks .entry)) (now (end1 .entry)) (now (end2 .entry)) (now (cost .entry)) (now (mask .entry)) p (link .0)) ⌝ }
 {
-    let s = link.0 as usize;
-    let a = end1[s];
-    let b = end2[s];
-    let mut left = crossing(mask, Node(a), Node(b));
+    let mut left = between_ends(link, end1, end2, mask);
     let mut found: u32 = 0;
     while left != 0 {
         let k = bits::lowest(left);
@@ -136,62 +142,6 @@ pub fn count_all(
     total
 }
 
-// How many violations are there after a step of a tree link's cost? The rank of a tree link is the one between its ends.
-fn after_tree_step(
-    before: u32,
-    edge: Edge,
-    old: u32,
-    new: u32,
-    edges: usize,
-    ranks: &[u32; 256],
-    end1: &[u32; 256],
-    end2: &[u32; 256],
-    cost: &[u32; 256],
-    mark: &[u32; 256],
-    mask: &[u64; 64],
-) -> u32
-    requires { ⌜ ((count : ℕ) × Countable edges count (now ranks) (now end1) (now end2) (now mark) (now mask)) ⌝ }
-    requires { ⌜ StepOf edges before (edge .0) old new (now ranks) (now end1) (now end2) (now cost) (now mark) (now mask) ⌝ }
-    requires { ⌜ arrayTree (now mark) (edge .0) ≡ true ⌝ }
-    ensures { λ r. ⌜ r ≡ violationsAt edges (now (ranks .entry)) (now (end1 .entry)) (now (end2 .entry)) (set (now (cost .entry)) (edge .0) new)
-        (now (mark .entry)) (now (mask .entry)) ⌝ }
-{
-    let e = edge.0 as usize;
-    let a = end1[e];
-    let b = end2[e];
-    let k = bits::lowest(crossing(mask, Node(a), Node(b)));
-    if old < new {
-        return before + spares_at(TreeRank(k), old, edges, end1, end2, cost, mark, mask);
-    }
-    before - spares_at(TreeRank(k), new, edges, end1, end2, cost, mark, mask)
-}
-
-// How many violations are there after a step of a spare's cost?
-fn after_spare_step(
-    before: u32,
-    edge: Edge,
-    old: u32,
-    new: u32,
-    edges: usize,
-    ranks: &[u32; 256],
-    end1: &[u32; 256],
-    end2: &[u32; 256],
-    cost: &[u32; 256],
-    mark: &[u32; 256],
-    mask: &[u64; 64],
-) -> u32
-    requires { ⌜ ((count : ℕ) × Countable edges count (now ranks) (now end1) (now end2) (now mark) (now mask)) ⌝ }
-    requires { ⌜ StepOf edges before (edge .0) old new (now ranks) (now end1) (now end2) (now cost) (now mark) (now mask) ⌝ }
-    requires { ⌜ arraySpare (now mark) (edge .0) ≡ true ⌝ }
-    ensures { λ r. ⌜ r ≡ violationsAt edges (now (ranks .entry)) (now (end1 .entry)) (now (end2 .entry)) (set (now (cost .entry)) (edge .0) new)
-        (now (mark .entry)) (now (mask .entry)) ⌝ }
-{
-    if new < old {
-        return before + ranks_within(edge, new, old, ranks, end1, end2, cost, mask);
-    }
-    before - ranks_within(edge, old, new, ranks, end1, end2, cost, mask)
-}
-
 // How many violations are there after a step of one link's cost? The array has the cost before it.
 pub fn after_step(
     before: u32,
@@ -213,34 +163,18 @@ pub fn after_step(
 {
     let own = mark[edge.0 as usize];
     if is_tree(own) {
-        return after_tree_step(
-            before,
-            edge,
-            old,
-            new,
-            edges,
-            ranks,
-            end1,
-            end2,
-            cost,
-            mark,
-            mask,
-        );
+        // Its own rank is the only one between its ends.
+        let k = bits::lowest(between_ends(edge, end1, end2, mask));
+        if old < new {
+            return before + spares_at(TreeRank(k), old, edges, end1, end2, cost, mark, mask);
+        }
+        return before - spares_at(TreeRank(k), new, edges, end1, end2, cost, mark, mask);
     }
     if is_spare(own) {
-        return after_spare_step(
-            before,
-            edge,
-            old,
-            new,
-            edges,
-            ranks,
-            end1,
-            end2,
-            cost,
-            mark,
-            mask,
-        );
+        if new < old {
+            return before + ranks_within(edge, new, old, ranks, end1, end2, cost, mask);
+        }
+        return before - ranks_within(edge, old, new, ranks, end1, end2, cost, mask);
     }
     before
 }

@@ -37,31 +37,20 @@ returns-2 c =
     meets-other (a .end1 .now) (a .end2 .now) (a .cost .now) (a .mark .now) (a .mask .now) (a .link .0) (a .k .0) (a .x) (m .is-spare .ensures)
     (not-true _ (c .if2 .taken))
 
-mul-a : tie.Need-mul-a
-mul-a c = omega (arith, c .before .before .before .before .before .before .pre .0 .link)
+between-ends-requires : tie.Need-between-ends-requires
+between-ends-requires c κs = c .before .before .before .before .before .before .pre .0
 
-element-copy-out-a : tie.Need-element-copy-out-a
-element-copy-out-a c = omega (arith, c .before .before .before .before .before .before .pre .0 .link)
-
-mul-b : tie.Need-mul-b
-mul-b c = omega (arith, c .before .before .before .before .before .before .before .pre .0 .link)
-
-element-copy-out-b : tie.Need-element-copy-out-b
-element-copy-out-b c = omega (arith, c .before .before .before .before .before .before .before .pre .0 .link)
-
-covers-requires : tie.Need-covers-requires
-covers-requires c κs =
-    let asked = c .before .before .before .before .before .before .before .before .pre in
-    (asked .0 .first, asked .0 .second, asked .1)
+has-requires : tie.Need-has-requires
+has-requires c κs = c .before .before .before .before .before .before .before .pre .1
 
 returns-3 : tie.Need-returns-3
 returns-3 c =
-    let n = c .before .before .before in
-    let m = n .before in
+    let w = c .before in
+    let m = w .before .before in
     let a = m .before .before .before .before .before .args in
-    c .covers .ensures
+    c .has .ensures ∙ w .between-ends .ensures (a .k .0)
     ∙ meets-over (a .end1 .now) (a .end2 .now) (a .cost .now) (a .mark .now) (a .mask .now) (a .link .0) (a .k .0) (a .x) (m .is-spare .ensures)
-    (not-false _ (n .if2 .left)) (m .before .before .if1 .left)
+    (not-false _ (w .before .if2 .left)) (m .before .before .if1 .left)
 
 pub meets-spec : {M : Type 1} → statement M
 meets-spec =
@@ -75,9 +64,6 @@ meets-spec =
     element-copy-out-is-spare
     is-spare-requires
     returns-2
-    mul-a
-    element-copy-out-a
-    mul-b
-    element-copy-out-b
-    covers-requires
+    between-ends-requires
+    has-requires
     returns-3)

@@ -7,60 +7,42 @@ use mathlib.Core.Logic.{⊎-elim}
 use mathlib.Core.Bool.{Bool, true, _&&_}
 use borrow.Author.Needs.{needs}
 use lib.ListN.{getD}
-use Rattle.loops.specs.Below.{sum}
 use Rattle.loops.specs.Loop.{first}
 use Rattle.bits.specs.Bit.{bit}
 use Rattle.graph.specs.Rank.{costAt}
-use Rattle.graph.specs.Violations.{one, ones-most}
-use Rattle.paths.specs.Arrays.{across}
+use Rattle.graph.specs.Violations.{ones-most}
 use Rattle.paths.specs.WordLaws.{lowest-below, lowest-set, word-part, word-less}
 use Rattle.violations.specs.Counting.{costsWithin, AsksWithin}
-use Rattle.violations.specs.CountingLaws.{wordOnes, ones-start, ones-end, turn-yes, turn-no}
+use Rattle.violations.specs.CountingLaws.{wordOnes, ones-word, ones-end, turn-yes, turn-no}
 use Rattle.violations.proofs.ranks_within.Statement.{statement}
 use Rattle.violations.proofs.ranks_within.Tie as tie
 
 abbrev Inv-loop : tie.InvT-loop
-Inv-loop low high ranks end1 end2 cost mask s a b left₀ found₀ left found =
+Inv-loop low high ranks end1 end2 cost mask left₀ found₀ left found =
     ((p : ℕ → Bool) → AsksWithin low high p
-    → found + wordOnes (λ k. p (costAt cost ranks k)) left ≡ sum 64 (λ k. one (across mask a b k && p (costAt cost ranks k)))) ×
+    → found + wordOnes (λ k. p (costAt cost ranks k)) left ≡ wordOnes (λ k. p (costAt cost ranks k)) left₀) ×
     (left < 2 ^ 64) ×
     ((k : ℕ) → bit left k ≡ true → getD ranks k 0 < 256)
 
 abbrev μ-loop : tie.MeasureT-loop
-μ-loop low high ranks end1 end2 cost mask s a b left₀ found₀ left found = 64 - first 64 (bit left)
+μ-loop low high ranks end1 end2 cost mask left₀ found₀ left found = 64 - first 64 (bit left)
 
 -- the cost of a rank passes
 abbrev priced : tie.Start Inv-loop μ-loop → (ℕ → Bool) → ℕ → Bool
 priced s p k = p (costAt (s .args .cost .now) (s .args .ranks .now) k)
 
 abbrev start : tie.At-loop Inv-loop μ-loop → tie.Start Inv-loop μ-loop
-start l = l .before .before .before .before .before
+start l = l .before .before
 
-cast-s : tie.Need-cast-s Inv-loop μ-loop
-cast-s c = omega arith
-
-mul-a : tie.Need-mul-a Inv-loop μ-loop
-mul-a c = omega arith
-
-element-copy-out-a : tie.Need-element-copy-out-a Inv-loop μ-loop
-element-copy-out-a c = omega arith
-
-mul-b : tie.Need-mul-b Inv-loop μ-loop
-mul-b c = omega arith
-
-element-copy-out-b : tie.Need-element-copy-out-b Inv-loop μ-loop
-element-copy-out-b c = omega arith
-
-crossing-requires : tie.Need-crossing-requires Inv-loop μ-loop
-crossing-requires c κs = omega arith
+between-ends-requires : tie.Need-between-ends-requires Inv-loop μ-loop
+between-ends-requires c κs = c .pre .0
 
 loop-holds : tie.Need-loop-holds Inv-loop μ-loop
 loop-holds c =
-    let x = c .crossing in
-    let s = c .before .before .before .before in (
-      λ p asks. ones-start (priced s p) _ (x .result) (x .ensures),
+    let x = c .between-ends in (
+      λ p asks. omega arith,
       omega arith,
-      λ k h. s .pre .1 k (sym (x .ensures k) ∙ h),
+      λ k h. c .before .pre .1 k (sym (x .ensures k) ∙ h),
     )
 
 lowest-requires : tie.Need-lowest-requires Inv-loop μ-loop
@@ -82,12 +64,9 @@ add-found : tie.Need-add-found Inv-loop μ-loop
 add-found c =
     let l = c .before .before .before .before .before in
     let a = start l .args in
-    omega (
-      arith,
-      l .loop .inv .0 (costsWithin (a .low) (a .high)) (λ x h. refl),
-      ones-most 64 (λ k. across (a .mask .now) (getD (a .end1 .now) (a .link .0) 0) (getD (a .end2 .now) (a .link .0) 0) k
-          && costsWithin (a .low) (a .high) (costAt (a .cost .now) (a .ranks .now) k)),
-    )
+    let ok : ℕ → Bool = priced (start l) (costsWithin (a .low) (a .high)) in
+    let w = l .before .between-ends .result in
+    omega (arith, l .loop .inv .0 (costsWithin (a .low) (a .high)) (λ x h. refl), ones-most 64 (λ k. bit w k && ok k))
 
 without-lowest-requires : tie.Need-without-lowest-requires Inv-loop μ-loop
 without-lowest-requires c κs = omega arith
@@ -122,7 +101,9 @@ loop-again c =
 returns : tie.Need-returns Inv-loop μ-loop
 returns c = λ p asks.
     let l = c .before in
+    let w = l .before .between-ends in
     ones-end (priced (start l) p) (l .loop .found) _ (l .loop .left) (l .loop .inv .0 p asks) (c .loop-test .left)
+    ∙ ones-word (priced (start l) p) _ (w .result) (w .ensures)
 
 pub ranks-within-spec : {M : Type 1} → statement M
 ranks-within-spec =
@@ -130,12 +111,7 @@ ranks-within-spec =
     (tie.spec
     Inv-loop
     μ-loop
-    cast-s
-    mul-a
-    element-copy-out-a
-    mul-b
-    element-copy-out-b
-    crossing-requires
+    between-ends-requires
     loop-holds
     lowest-requires
     cost-at-requires
