@@ -18,7 +18,7 @@
  *     ist_find_cost      8,200    ist_write_job          16,300
  *     ist_read_job      13,700    ist_read_answer        11,400
  *     ist_sheet          7,600    ist_apply_sheet         6,600
- *     ist_replay         9,000
+ *     ist_replay         8,200
  *
  * Results. A refusal is the first "no" of the questions put, by the numbers below: 1 to 6 to the job, then 8 or 9 to what comes
  * with it, and 7 last. It writes nothing into an area or an array. A judge's yes is 0, like success; its no is -1; compare with

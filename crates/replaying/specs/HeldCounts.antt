@@ -23,10 +23,10 @@ use Rattle.accept.specs.ArrayLaws.{costs-small}
 use Rattle.violations.specs.Counting.{Countable}
 use Rattle.violations.specs.CountingLaws.{none-cheapest}
 use Rattle.violations.specs.Counting.{violationsBy}
-use Rattle.watch.specs.Watching.{Priced256, noneAt}
+use Rattle.watch.specs.Watching.{RangedCosts, noneAt}
 
 module _ {j : Job} {n m : ℕ} {a : Arrays} (h : Held j n m a) where
-  pub priced-held : Priced256 m (a .links .cost)
+  pub priced-held : RangedCosts m (a .links .cost)
   priced-held = record { few = few-links h; places = h .stored .cost-places; range = costs-small (h .stored) }
 
   abbrev graph : Graph

@@ -20,7 +20,7 @@ use Rattle.replay.specs.ReplayLaws.{heard-range}
 use Rattle.replay.specs.Hearing.{HeardTo, heard-more, heard-unread}
 use Rattle.packets.specs.PacketLaws.{heard-set}
 use Rattle.violations.specs.Counting.{StepOf}
-use Rattle.watch.specs.Watching.{Priced256, Hears, noneAt, Watched}
+use Rattle.watch.specs.Watching.{RangedCosts, Hears, noneAt, Watched}
 
 -- A step that is taken moves a cost by one.
 by-one : (up : Bool) (x : ℕ) → (stepped up x ≡ x → ⊥) → (stepped up x ≡ suc x) ⊎ (x ≡ suc (stepped up x))
@@ -56,8 +56,8 @@ module _ (edges b e : ℕ) (ranks as₁ as₂ as₃ as₄ mask : List ℕ) (h : 
 
 -- An array of costs, after one packet more.
 pub priced-more :
-    (edges : ℕ) (cs cs′ : List ℕ) (q : Packet) → Priced256 edges cs → costsAt cs′ ≡ heard q (costsAt cs) → length cs′ ≡ 256 → q .edge < edges
-    → Priced256 edges cs′
+    (edges : ℕ) (cs cs′ : List ℕ) (q : Packet) → RangedCosts edges cs → costsAt cs′ ≡ heard q (costsAt cs) → length cs′ ≡ 256 → q .edge < edges
+    → RangedCosts edges cs′
 priced-more edges cs cs′ q p moved places inside =
     record { few = p .few; places = places; range = subst (InRange edges) (sym moved) (heard-range edges q (costsAt cs) inside (p .range)) }
 
@@ -65,12 +65,12 @@ priced-more edges cs cs′ q p moved places inside =
 module _ {edges : ℕ} {s : List ℕ} (count : (ℕ → ℕ) → ℕ) {cs cs′ : List ℕ} {at n v : ℕ}
     (h : HeardTo edges s (costsAt cs) (noneAt count) at n (costsAt cs′)) (left : v ≡ count (costsAt cs′)) where
   pub watched-to :
-      Priced256 edges cs′ → (v ≡ 0) ⊎ (length s ≤ at)
+      RangedCosts edges cs′ → (v ≡ 0) ⊎ (length s ≤ at)
       → Watched edges s count cs (record { read = true; count = n; at = at; violations = v }) cs′
   watched-to p e = record { unread = λ q. clash refl q; heard = λ _. h; left = λ _. left; ends = λ _. e; priced = p }
 
   pub watched-none :
-      Priced256 edges cs′ → readLog edges (drop at s) ≡ none
+      RangedCosts edges cs′ → readLog edges (drop at s) ≡ none
       → Watched edges s count cs (record { read = false; count = n; at = at; violations = v }) cs′
   watched-none p e =
       record {

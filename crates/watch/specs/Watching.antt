@@ -15,14 +15,14 @@ use Rattle.violations.specs.Counting.{violationsBy}
 use Rattle.watch.specs.declared.Heard.{Heard}
 
 -- An array of 256 costs, those of the links in range.
-pub record Priced256 (edges : ℕ) (cs : List ℕ) : Type 0 where
+pub record RangedCosts (edges : ℕ) (cs : List ℕ) : Type 0 where
   pub few : edges ≤ 256
   pub places : length cs ≡ 256
   pub range : InRange edges (costsAt cs)
 
 -- A packet of link e comes, where there are b violations before it.
 pub record Hears (edges b e : ℕ) (ranks as₁ as₂ as₃ as₄ mask : List ℕ) : Type 0 where
-  pub priced : Priced256 edges as₃
+  pub priced : RangedCosts edges as₃
   pub inside : e < edges
   pub before : b ≡ violationsBy edges ranks as₁ as₂ as₄ mask (costsAt as₃)
 
@@ -37,4 +37,4 @@ pub record Watched (edges : ℕ) (s : List ℕ) (count : (ℕ → ℕ) → ℕ) 
   pub heard : r .read ≡ true → HeardTo edges s (costsAt cs) (noneAt count) (r .at) (r .count) (costsAt cs′)
   pub left : r .read ≡ true → r .violations ≡ count (costsAt cs′)
   pub ends : r .read ≡ true → (r .violations ≡ 0) ⊎ (length s ≤ r .at)
-  pub priced : Priced256 edges cs′
+  pub priced : RangedCosts edges cs′

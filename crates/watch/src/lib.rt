@@ -6,7 +6,7 @@ ghost use lib.ListN.{length};
 ghost use Rattle.sheet.specs.Reading.{costsAt};
 ghost use Rattle.replay.specs.Log.{heard};
 ghost use Rattle.violations.specs.Counting.{Countable, violationsBy};
-ghost use Rattle.watch.specs.Watching.{Priced256, Hears, Watched};
+ghost use Rattle.watch.specs.Watching.{RangedCosts, Hears, Watched};
 use ids::Edge;
 use packets::Packet;
 
@@ -77,7 +77,7 @@ pub fn until_cheapest(
     mask: &[u64; 64],
 ) -> Heard
     requires { ⌜ ((count : ℕ) × Countable edges count (now ranks) (now end1) (now end2) (now mark) (now mask)) ⌝ }
-    requires { ⌜ Priced256 edges (now cost) ⌝ }
+    requires { ⌜ RangedCosts edges (now cost) ⌝ }
     ensures { λ r. ⌜ Watched edges (now (log .entry)) (violationsBy edges (now (ranks .entry)) (now (end1 .entry)) (now (end2 .entry))
         (now (mark .entry)) (now (mask .entry))) (now (cost .entry)) r (now (cost .exit)) ⌝ }
 {

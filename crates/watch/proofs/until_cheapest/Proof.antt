@@ -13,14 +13,14 @@ use Rattle.packets.specs.declared.Packet.the-variants.{Step}
 use Rattle.packets.specs.Packets.{packetAt}
 use Rattle.packets.specs.PacketLaws.{packet-refused, packet-inside, packet-within, packet-rest}
 use Rattle.violations.specs.Counting.{violationsBy}
-use Rattle.watch.specs.Watching.{Priced256, noneAt}
+use Rattle.watch.specs.Watching.{RangedCosts, noneAt}
 use Rattle.watch.specs.WatchLaws.{watched-to, watched-none, priced-more, watched-more}
 use Rattle.watch.proofs.until_cheapest.Statement.{statement}
 use Rattle.watch.proofs.until_cheapest.Tie as tie
 
 abbrev Inv-loop : tie.InvT-loop
 Inv-loop log edges ranks end1 end2 cost₀ mark mask left₀ count₀ at₀ cost left count at =
-    Priced256 edges cost × HeardTo edges log (costsAt cost₀) (noneAt (violationsBy edges ranks end1 end2 mark mask)) at count (costsAt cost)
+    RangedCosts edges cost × HeardTo edges log (costsAt cost₀) (noneAt (violationsBy edges ranks end1 end2 mark mask)) at count (costsAt cost)
     × (left ≡ violationsBy edges ranks end1 end2 mark mask (costsAt cost))
 
 abbrev μ-loop : tie.MeasureT-loop
