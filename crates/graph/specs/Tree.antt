@@ -337,14 +337,6 @@ module _ {g : Graph} (sound : Sound g) {tr : EdgeSet} {ranks : List ℕ} (lists 
       let h : Grown g tr ranks (rooted g ranks) = rooted-end (omega (arith, tree .size)) .0 in
       h .ends k l (count-full (length ranks) (h .used) (omega (arith, h .one-more, all-found tree, tree .size, lists .size)) k l)
 
-  pub own-rank :
-      SpanningTree g tr → (k : ℕ) → k < length ranks → (j : ℕ) → coversRank g (rooted g ranks) (getD ranks k 0) j ≡ eqb k j
-  own-rank tree k l j =
-      let ends : Ends (rooted g ranks) k (g .end₁ (getD ranks k 0)) (g .end₂ (getD ranks k 0)) = all-ends tree k l in
-      same-test _ _
-      (λ h. elim (ℕ-discrete k j) [ yes e ↦ eq-eqb k j e | no d ↦ absurd (xor-means _ _ .0 h (ends .others j (λ e. d (sym e)))) ])
-      (λ h. rw (← eqb-true k j h) (xor-means _ _ .1 (ends .itself)))
-
   -- So "rank k is on the path of v" is a side function of that tree edge.
   rank-cut : SpanningTree g tr → (k : ℕ) → k < length ranks → Cut g tr (getD ranks k 0) (λ v. rooted g ranks .path v k)
   rank-cut tree k l = record { others = others; itself = all-ends tree k l .itself }
@@ -399,3 +391,12 @@ module _ {g : Graph} (sound : Sound g) {tr : EdgeSet} {ranks : List ℕ} (lists 
               let usable : g .live s ≡ true = and-first (g .live s) _ spare in
               let out : tr s ≡ false = not-true (tr s) (and-second (g .live s) _ spare) in
               le-pos (h s (getD ranks k 0) b out (covers-means tree s k b usable m .0 over))
+
+  -- Between the ends of a tree edge there is its own rank alone.
+  pub own-rank :
+      SpanningTree g tr → (k : ℕ) → k < length ranks → (j : ℕ) → coversRank g (rooted g ranks) (getD ranks k 0) j ≡ eqb k j
+  own-rank tree k l j =
+      let ends : Ends (rooted g ranks) k (g .end₁ (getD ranks k 0)) (g .end₂ (getD ranks k 0)) = all-ends tree k l in
+      same-test _ _
+      (λ h. elim (ℕ-discrete k j) [ yes e ↦ eq-eqb k j e | no d ↦ absurd (xor-means _ _ .0 h (ends .others j (λ e. d (sym e)))) ])
+      (λ h. rw (← eqb-true k j h) (xor-means _ _ .1 (ends .itself)))
