@@ -114,7 +114,7 @@ runningWeights j = tabulate (suc (problemOf j .trees)) (λ t. built (problemOf j
 abbrev addedWeights : Job → List ℕ
 addedWeights j =
     tabulate (suc (problemOf j .trees)) λ t.
-    pairsWeight (costOf j) (pairsOf (graphOf j) (treeOf j) (costOf j) (built (problemOf j) t .mates))
+    pairsWeight (costOf j) (pairsOf (graphOf j) (treeOf j) (costOf j) (built (problemOf j) t .pairs))
 """
 
 # The rows T1 to T9, those that document 01 wants run, and some at the edge of a question: a job, and its answers or its

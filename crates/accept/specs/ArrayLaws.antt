@@ -70,6 +70,7 @@ stored s z c nodes edges b none empty full pn pm =
       end₁ =
           ap placesOf (ap (λ (c : Columns). c .end₁) full ∙ ap (λ (z : List ℕ). sets z 0 (firsts ls)) (empty .end₁)) ∙
           column-held (λ (l : JobLink). l .end₁) refl 256 ls few;
+      end₁-places = ap (λ (c : Columns). length (c .end₁)) full ∙ length-sets (z .links .end₁) 0 (firsts ls) ∙ empty-places empty .end₁;
       end₂ =
           ap placesOf (ap (λ (c : Columns). c .end₂) full ∙ ap (λ (z : List ℕ). sets z 0 (seconds ls)) (empty .end₂)) ∙
           column-held (λ (l : JobLink). l .end₂) refl 256 ls few;
@@ -80,6 +81,7 @@ stored s z c nodes edges b none empty full pn pm =
       mark =
           ap placesOf (ap (λ (c : Columns). c .mark) full ∙ ap (λ (z : List ℕ). sets z 0 (marks ls)) (empty .mark)) ∙
           column-held (λ (l : JobLink). l .mark) refl 256 ls few;
+      mark-places = ap (λ (c : Columns). length (c .mark)) full ∙ length-sets (z .links .mark) 0 (marks ls) ∙ empty-places empty .mark;
     }
 
 -- The first places of an array list the job's tree links, each once, in any order.

@@ -45,8 +45,10 @@ module _ (nodes edges : ℕ) (c : Columns) (h : ListHeld edges c) where
         nodes-are = refl;
         edges-are = sym (rows-length edges c);
         end₁ = said (λ (l : JobLink). l .end₁) refl (h .end₁);
+        end₁-places = h .places .end₁;
         end₂ = said (λ (l : JobLink). l .end₂) refl (h .end₂);
         cost = said (λ (l : JobLink). l .cost) refl (h .cost);
         cost-places = h .places .cost;
         mark = said (λ (l : JobLink). l .mark) refl (h .mark);
+        mark-places = h .places .mark;
       }

@@ -1,3 +1,4 @@
--- What the rows of covering spares hold and are made from, and the laws of the loops that fill them.
-pub mod Rows
-pub mod RowLaws
+-- What it is to cover and to undercut, the ranks of the spares that undercut, their columns, and the laws of these.
+pub mod Covers
+pub mod LowLaws
+pub mod ColumnLaws

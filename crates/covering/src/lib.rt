@@ -1,17 +1,17 @@
-// For each tree rank the spare ranks that cover it and cost less, as rows of sets (specs/Rows.antt).
+// The spares that cost less than a tree edge that they cover, by rank; and for each of these ranks the tree ranks that it covers
+// and undercuts, as a column (specs/Covers.antt).
 ghost use mathlib.Core.Path.{_≡_};
-ghost use mathlib.Core.Bool.{_&&_, _||_};
+ghost use mathlib.Core.Bool.{false};
 ghost use Prim.Native.Nat.{ℕ, _<_, _≤_};
-ghost use lib.Dec.{eqb, ltb};
-ghost use lib.ListN.{length, getD, replicate};
+ghost use lib.Dec.{ltb};
+ghost use lib.ListN.{length, getD};
 ghost use Rattle.bits.specs.Bit.{bit};
-ghost use Rattle.sets.specs.Sets.{inRow};
-ghost use Rattle.graph.specs.Rank.{Ranks};
-ghost use Rattle.covering.specs.Rows.{covers, undercuts, RanksFall, RanksRise, Ends};
-ghost use Rattle.graph.specs.Rank.{costAt};
+ghost use Rattle.graph.specs.Rank.{Ranks, costAt};
+ghost use Rattle.ranks.specs.Keys.{SmallCosts, Collected, keyAt};
+ghost use Rattle.covering.specs.Covers.{covers, undercutting, isLow, ColumnsHold, RanksFall, RanksRise, Ends, Crossed, LowRanked};
 use ids::Edge;
 use ids::Node;
-use ids::SpareRank;
+use limits::is_spare;
 
 // The set of the tree ranks that an edge covers.
 fn covered(e: Edge, end1: &[u32; 256], end2: &[u32; 256], mask: &[u64; 64]) -> u64
@@ -24,19 +24,79 @@ fn covered(e: Edge, end1: &[u32; 256], end2: &[u32; 256], mask: &[u64; 64]) -> u
     paths::crossing(mask, Node(a), Node(b))
 }
 
-// Puts a spare rank into the rows of a set of tree ranks.
-fn fill(spare: SpareRank, trees: u64, rows: &mut [u64; 256])
-    requires { ⌜ (spare .0 < 256) × (length (now rows) ≡ 256) ⌝ }
-    ensures members { λ r. ⌜ ((t s : ℕ) → s < 256 → inRow (now (rows .exit)) t s ≡ (inRow (now (rows .entry)) t s || (eqb (spare .0) s && bit trees t))) ⌝ }
-    ensures length { λ r. ⌜ length (now (rows .exit)) ≡ 256 ⌝ }
+// Does an edge cost less than a tree edge that it covers? Costs fall by rank: the lowest rank that it covers tells.
+fn undercuts(
+    e: Edge,
+    cost: &[u32; 256],
+    ts: &[u32; 256],
+    end1: &[u32; 256],
+    end2: &[u32; 256],
+    mask: &[u64; 64],
+) -> bool
+    requires { ⌜ ((trees : ℕ) × (edges : ℕ) × (e .0 < edges) × Crossed trees edges (now cost) (now ts) (now end1) (now end2) (now mask)) ⌝ }
+    ensures { λ r. ⌜ r ≡ undercutting 64 (now (cost .entry)) (now (ts .entry)) (now (end1 .entry)) (now (end2 .entry)) (now (mask .entry)) (e .0) ⌝ }
 {
-    let s = spare.0;
-    let mut left = trees;
-    while left != 0 {
-        let t = bits::lowest(left);
-        set_rows::insert_in_row(rows, t, s);
-        left = bits::without_lowest(left);
+    let over = covered(e, end1, end2, mask);
+    if over == 0 {
+        return false;
     }
+    let number = ts[bits::lowest(over) as usize];
+    let t = Edge(number);
+    cost[e.0 as usize] < cost[t.0 as usize]
+}
+
+// Collects the keys of the spares that undercut, in place of the marks: their count, and the keys at the first places. A mark is
+// read before its place is written.
+fn collect_low(
+    edges: usize,
+    cost: &[u32; 256],
+    ts: &[u32; 256],
+    end1: &[u32; 256],
+    end2: &[u32; 256],
+    mask: &[u64; 64],
+    mark: &mut [u32; 256],
+) -> usize
+    requires arrays { ⌜ ((trees : ℕ) × Crossed trees edges (now cost) (now ts) (now end1) (now end2) (now mask)) ⌝ }
+    requires costs { ⌜ SmallCosts edges (now cost) × (length (now mark) ≡ 256) ⌝ }
+    ensures { λ r. ⌜ Collected (keyAt false (now (cost .entry)))
+        (isLow 64 (now (cost .entry)) (now (mark .entry)) (now (ts .entry)) (now (end1 .entry)) (now (end2 .entry)) (now (mask .entry)))
+        (now (mark .exit)) r edges ⌝ }
+{
+    let mut n: usize = 0;
+    let mut e: usize = 0;
+    while e < edges {
+        if is_spare(mark[e]) {
+            let number = e as u32;
+            if undercuts(Edge(number), cost, ts, end1, end2, mask) {
+                mark[n] = ranks::spare_key(cost[e], e);
+                n += 1;
+            }
+        }
+        e += 1;
+    }
+    n
+}
+
+// The spares that undercut by rising cost, in place of the marks: their count, and the edges at the first places.
+pub fn low_ranks(
+    edges: usize,
+    cost: &[u32; 256],
+    ts: &[u32; 256],
+    end1: &[u32; 256],
+    end2: &[u32; 256],
+    mask: &[u64; 64],
+    mark: &mut [u32; 256],
+) -> usize
+    requires arrays { ⌜ ((trees : ℕ) × Crossed trees edges (now cost) (now ts) (now end1) (now end2) (now mask)) ⌝ }
+    requires costs { ⌜ SmallCosts edges (now cost) × (length (now mark) ≡ 256) ⌝ }
+    ensures { λ r. ⌜ ((trees : ℕ)
+        → Crossed trees edges (now (cost .entry)) (now (ts .entry)) (now (end1 .entry)) (now (end2 .entry)) (now (mask .entry))
+        → LowRanked trees edges (now (cost .entry)) (now (mark .entry)) (now (ts .entry)) (now (end1 .entry)) (now (end2 .entry)) (now (mask .entry))
+        r (now (mark .exit))) ⌝ }
+{
+    let n = collect_low(edges, cost, ts, end1, end2, mask, mark);
+    ranks::rank_keys(mark, n);
+    n
 }
 
 // How many of the first `limit` tree ranks cost more than x. Costs fall by rank: these are the lowest ranks.
@@ -57,9 +117,9 @@ fn dearer(limit: u32, x: u32, cost: &[u32; 256], ts: &[u32; 256]) -> u32
     p
 }
 
-// Fills empty rows: each spare rank goes into the rows of the tree ranks that its edge covers and that cost more. Spare
-// ranks go by rising cost: what no longer costs more never does again.
-pub fn fill_rows(
+// Writes the column of each spare rank: the tree ranks that its edge covers and that cost more. Spare ranks go by rising cost:
+// what no longer costs more never does again.
+pub fn columns(
     trees: u32,
     spares: usize,
     cost: &[u32; 256],
@@ -68,29 +128,23 @@ pub fn fill_rows(
     end1: &[u32; 256],
     end2: &[u32; 256],
     mask: &[u64; 64],
-    rows: &mut [u64; 256],
+    cols: &mut [u64; 256],
 )
     requires trees { ⌜ (trees < 64) × Ranks trees (now ts) × RanksFall trees (now cost) (now ts) ⌝ }
     requires spares { ⌜ Ranks spares (now ss) × RanksRise spares (now cost) (now ss) ⌝ }
     requires ends { ⌜ Ends spares (now ss) (now end1) (now end2) ⌝ }
-    requires empty { ⌜ now rows ≡ replicate 256 0 ⌝ }
-    ensures members { λ r. ⌜ ((t s : ℕ) → t < trees → s < 256 → inRow (now (rows .exit)) t s
-        ≡ (ltb s spares && undercuts (now (cost .entry)) (now (ts .entry)) (now (ss .entry)) (now (end1 .entry)) (now (end2 .entry))
-        (now (mask .entry)) t s)) ⌝ }
-    ensures length { λ r. ⌜ length (now (rows .exit)) ≡ 256 ⌝ }
+    requires places { ⌜ length (now cols) ≡ 256 ⌝ }
+    ensures columns { λ r. ⌜ ColumnsHold trees spares (now (cost .entry)) (now (ts .entry)) (now (ss .entry)) (now (end1 .entry)) (now (end2 .entry))
+        (now (mask .entry)) (now (cols .exit)) ⌝ }
+    ensures length { λ r. ⌜ length (now (cols .exit)) ≡ 256 ⌝ }
 {
     let mut limit = trees;
     let mut s: usize = 0;
     while s < spares {
         let e = Edge(ss[s]);
         limit = dearer(limit, cost[e.0 as usize], cost, ts);
-        if limit == 0 {
-            return;
-        }
         let over = covered(e, end1, end2, mask);
-        let above = bits::both(over, bits::below(limit));
-        let spare = s as u32;
-        fill(SpareRank(spare), above, rows);
+        cols[s] = bits::both(over, bits::below(limit));
         s += 1;
     }
 }

@@ -3,12 +3,12 @@
 use Prim.Native.Nat.{ℕ, _<_}
 use mathlib.Core.Path.{_≡_, refl, ap, _∙_}
 use mathlib.Core.Logic.{_≢_, inl, inr}
-use mathlib.Core.Bool.{false, not}
+use mathlib.Core.Bool.{false}
 use mathlib.Core.List.{List}
 use lib.IntN.{pos}
 use lib.ListN.{length, getD}
 use Rattle.limits.specs.Limits.{unpluggedMark}
-use Rattle.loops.specs.TestLaws.{truth, clash, and-both}
+use Rattle.loops.specs.TestLaws.{truth, clash}
 use Rattle.graph.specs.Graph.{EdgeSet, SpanningTree, Covers}
 use Rattle.optimum.specs.Optimum.{Pair, IsPair, Answer, chosen}
 use Rattle.optimum.specs.PairBound.{idle-unpaired, idle-still}
@@ -41,9 +41,7 @@ module _ (j : Job) (e : ℕ) (unplugged : link j e .mark ≡ unpluggedMark) wher
 
     -- Our answer keeps its cost, and so does every answer frame that is judged yes: one that moves it is judged no.
     pub unplugged-kept : e < length (j .links) → getD (answerOf j .costs) e 0 ≡ costOf j e
-    unplugged-kept l =
-        solve-idle (graphOf j) (treeOf j) (costOf j) e l
-        (and-both (not (graphOf j .live e)) (not (treeOf j e)) (ap not unplugged-idle) (ap not unplugged-unmarked))
+    unplugged-kept l = solve-idle (graphOf j) (treeOf j) (costOf j) e l unplugged-idle unplugged-unmarked
 
     pub unplugged-certified :
         (s : List ℕ) (a : Answer) → Certified j s a → e < length (j .links) → getD (a .costs) e 0 ≡ costOf j e

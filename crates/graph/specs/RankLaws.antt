@@ -15,8 +15,8 @@ use Rattle.loops.specs.Loop.{gather}
 use Rattle.loops.specs.SumLaws.{sum-same, sumOver, sum-over}
 use Rattle.loops.specs.Ordered.{Ordered, ordered-at, getD-member, member-place}
 use Rattle.loops.specs.GatherLaws.{gather-has, gather-from, gather-ordered, gather-sum}
-use Rattle.graph.specs.Graph.{Graph, EdgeSet, NoneTwice, count, spareOf}
-use Rattle.graph.specs.Rank.{insert, sorted, members, treeRanks, spareRanks, Lists}
+use Rattle.graph.specs.Graph.{Graph, EdgeSet, NoneTwice, count}
+use Rattle.graph.specs.Rank.{insert, sorted, members, treeRanks, Lists}
 
 -- Insertion.
 module _ (before : ℕ → ℕ → Bool) (x : ℕ) where
@@ -325,19 +325,16 @@ rising c =
       fails = λ x y q. (omega (arith, leb-false (c x) (c y) q), λ h. omega (arith, leb-false (c x) (c y) q));
     }
 
+pub ranks-rise :
+    (c : ℕ → ℕ) (m : ℕ) (S : EdgeSet) (i j : ℕ) → i ≤ j → j < length (sorted (byRising c) (members m S))
+    → c (getD (sorted (byRising c) (members m S)) i 0) ≤ c (getD (sorted (byRising c) (members m S)) j 0)
+ranks-rise c = ranks-may (rising c)
+
 module _ (g : Graph) (tr : EdgeSet) (c : ℕ → ℕ) where
   pub tree-lists : Lists (g .edges) tr (treeRanks g tr c)
   tree-lists = ranks-list (byFalling c) (g .edges) tr
-
-  pub spare-lists : Lists (g .edges) (spareOf g tr) (spareRanks g tr c)
-  spare-lists = ranks-list (byRising c) (g .edges) (spareOf g tr)
 
   pub tree-falls :
       (t t′ : ℕ) → t ≤ t′ → t′ < length (treeRanks g tr c)
       → c (getD (treeRanks g tr c) t′ 0) ≤ c (getD (treeRanks g tr c) t 0)
   tree-falls = ranks-may (falling c) (g .edges) tr
-
-  pub spare-rises :
-      (s s′ : ℕ) → s ≤ s′ → s′ < length (spareRanks g tr c)
-      → c (getD (spareRanks g tr c) s 0) ≤ c (getD (spareRanks g tr c) s′ 0)
-  spare-rises = ranks-may (rising c) (g .edges) (spareOf g tr)

@@ -12,18 +12,20 @@ use Rattle.frame.specs.Questions.{counted}
 use Rattle.frame.specs.Services.{small}
 use Rattle.paths.specs.Arrays.{paths}
 
--- A job that passes questions 1 to 3, of so many stations and links, in four arrays; zeros behind its last link. The costs have
--- 256 places, so that they may be changed.
+-- A job that passes questions 1 to 3, of so many stations and links, in four arrays; zeros behind its last link. First ends,
+-- costs and marks have 256 places, so that they may be changed.
 pub record Stored (j : Job) (nodes edges : ℕ) (c : Columns) : Type 0 where
   pub small : small j ≡ true
   pub counted : counted j ≡ true
   pub nodes-are : nodes ≡ j .nodes
   pub edges-are : edges ≡ length (j .links)
   pub end₁ : _≡_ {A = ℕ → ℕ} (λ e. getD (c .end₁) e 0) (λ e. link j e .end₁)
+  pub end₁-places : length (c .end₁) ≡ 256
   pub end₂ : _≡_ {A = ℕ → ℕ} (λ e. getD (c .end₂) e 0) (λ e. link j e .end₂)
   pub cost : _≡_ {A = ℕ → ℕ} (λ e. getD (c .cost) e 0) (costOf j)
   pub cost-places : length (c .cost) ≡ 256
   pub mark : _≡_ {A = ℕ → ℕ} (λ e. getD (c .mark) e 0) (λ e. link j e .mark)
+  pub mark-places : length (c .mark) ≡ 256
 
 -- An accepted job so stored, with its tree links by rank and its tree paths.
 pub record Held (j : Job) (nodes edges : ℕ) (a : Arrays) : Type 0 where

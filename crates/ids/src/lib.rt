@@ -11,3 +11,6 @@ pub struct TreeRank(pub u32);
 
 // The rank of a non-tree edge: its place by rising cost.
 pub struct SpareRank(pub u32);
+
+// The place of a pair among the pairs found so far.
+pub struct Slot(pub u32);

@@ -1,4 +1,6 @@
--- The labels in arrays: what labelling promises in the words of the model, and the laws that its steps rest on.
+-- The labels of the pairs: what the code's state says in the words of the model, the laws of the model's turns, and the steps.
 pub mod Labels
-pub mod SkipSteps
+pub mod TurnLaws
+pub mod FillSteps
+pub mod LabelSteps
 pub mod OriginSteps

@@ -1,143 +1,175 @@
-// The labels of a matching: the lowest costs (specs/Labels.antt; the model is in optimum's specs/Lowest.antt).
+// The labels of the pairs: the lowest costs (specs/Labels.antt; the model is in optimum's specs/Lowest.antt).
 use ids::SpareRank;
 use ids::TreeRank;
 use matching::cost_at;
 ghost use mathlib.Core.Path.{_≡_};
-ghost use mathlib.Core.Bool.{cond, _||_};
-ghost use Prim.Native.Nat.{ℕ, suc, _<_, _≤_, min};
-ghost use lib.Dec.{eqb, ltb};
+ghost use Prim.Native.Nat.{ℕ, _-_, _<_, _≤_};
 ghost use lib.ListN.{getD, length};
-ghost use Rattle.loops.specs.Loop.{behind};
 ghost use Rattle.bits.specs.Bit.{bit};
-ghost use Rattle.sets.specs.Sets.{member};
-ghost use Rattle.search.specs.State.{Below};
-ghost use Rattle.matching.specs.Progress.{Edges};
 ghost use Rattle.graph.specs.Rank.{costAt};
-ghost use Rattle.labels.specs.Labels.{Labellable, Labelled, treeNext, matchedBelow};
+ghost use Rattle.labels.specs.Labels.{pairedBelow, LabelPut, LabelRoom, LabelledFrom, SpareLabelled, SparesRead, SparesLabelled, Labellable, Labelled};
 
-// Is tree rank `t` the next origin, and not the last of the `left` spare ranks that are left?
-fn tree_next(
-    t: TreeRank,
-    left: u32,
-    trees: u32,
-    cost: &[u32; 256],
-    ts: &[u32; 256],
-    ss: &[u32; 256],
-) -> bool
-    requires { ⌜ (trees ≤ 64) × (left ≤ 256) × Edges trees (now ts) × Edges left (now ss) ⌝ }
-    ensures { λ r. ⌜ r ≡ treeNext trees (now (cost .entry)) (now (ts .entry)) (now (ss .entry)) (t .0) left ⌝ }
-{
-    if left == 0 {
-        return true;
-    }
-    if trees <= t.0 {
-        return false;
-    }
-    cost_at(left - 1, cost, ss) <= cost_at(t.0, cost, ts)
-}
-
-// A set of tree ranks with a mate put in.
-fn with_mate(w: u64, mate: u32) -> u64
-    requires { ⌜ mate ≤ 64 ⌝ }
-    ensures { λ r. ⌜ ((t : ℕ) → bit r t ≡ (bit w t || eqb mate (suc t))) ⌝ }
-{
-    if mate == 0 {
-        return w;
-    }
-    bits::with(w, mate - 1)
-}
-
-// The tree ranks that are matched.
-fn matched_trees(spares: u32, mates: &[u32; 256]) -> u64
-    requires { ⌜ (spares ≤ 256) × Below 64 (now mates) ⌝ }
-    ensures { λ r. ⌜ ((t : ℕ) → bit r t ≡ matchedBelow spares (now (mates .entry)) t) ⌝ }
+// The tree ranks that are in a pair.
+fn paired_trees(slots: u32, links: &[u32; 128]) -> u64
+    requires { ⌜ (slots ≤ 64) × ((k : ℕ) → k < 64 → getD (now links) k 0 < 64) ⌝ }
+    ensures { λ r. ⌜ ((t : ℕ) → bit r t ≡ pairedBelow slots (now (links .entry)) t) ⌝ }
 {
     let mut w = 0u64;
-    let mut s = 0;
-    while s < spares {
-        w = with_mate(w, mates[s as usize]);
-        s += 1;
+    let mut k = 0;
+    while k < slots {
+        w = bits::with(w, links[k as usize]);
+        k += 1;
     }
     w
 }
 
-// Gives every spare rank its own cost as a label.
-fn own_costs(spares: u32, cost: &[u32; 256], ss: &[u32; 256], label: &mut [u32; 256])
-    requires { ⌜ (spares ≤ 256) × Edges spares (now ss) × (length (now label) ≡ 256) ⌝ }
-    ensures labels { λ r. ⌜ ((s : ℕ) → getD (now (label .exit)) s 0 ≡ cond (ltb s spares) (costAt (now (cost .entry)) (now (ss .entry)) s)
-        (getD (now (label .entry)) s 0)) ⌝ }
-    ensures length { λ r. ⌜ length (now (label .exit)) ≡ 256 ⌝ }
+// Gives the slots of a set the label `x`.
+fn put_label(set: u64, x: u32, label: &mut [u32; 64])
+    requires { ⌜ length (now label) ≡ 64 ⌝ }
+    ensures { λ r. ⌜ LabelPut set x (now (label .entry)) (now (label .exit)) ⌝ }
 {
-    let mut s = 0;
-    while s < spares {
-        label[s as usize] = cost_at(s, cost, ss);
-        s += 1;
+    let mut left = set;
+    while left != 0 {
+        label[bits::lowest(left) as usize] = x;
+        left = bits::without_lowest(left);
     }
 }
 
-// How many spare ranks, from the lowest on, are left: `left`, or fewer if those above are not live.
-fn still_left(left: u32, live: &[u64; 4]) -> u32
-    ensures { λ r. ⌜ r ≡ min left (behind 256 (member (now (live .entry)))) ⌝ }
+// Gives the label `x` to the slots of `live` that are not in `left` or that an exploration from tree rank `t` reaches among these.
+// Hands back those that have no label yet.
+fn label_from(
+    t: TreeRank,
+    x: u32,
+    live: u64,
+    left: u64,
+    words: &mut [u64; 66],
+    links: &mut [u32; 128],
+    label: &mut [u32; 64],
+) -> u64
+    requires { ⌜ (t .0 < 64) × LabelRoom (now words) (now links) (now label) ⌝ }
+    ensures { λ r. ⌜ LabelledFrom (t .0) x live left (now (words .entry)) (now (links .entry)) (now (label .entry)) (now (words .exit))
+        (now (links .exit)) (now (label .exit)) r ⌝ }
 {
-    let top = sets::top(live);
-    if top < left {
-        return top;
-    }
-    left
+    let after = search::explore(t, left, 0, words, links);
+    put_label(bits::less(live, after), x, label);
+    after
 }
 
-// Labels every rank: the origins in turn, by falling cost. Unmatched spare ranks keep their own cost.
+// Spare rank `s` as an origin, if it has a slot without a label.
+fn label_spare(
+    s: SpareRank,
+    live: u64,
+    cost: &[u32; 256],
+    ss: &[u32; 256],
+    cols: &[u64; 256],
+    slot: &[u32; 256],
+    words: &mut [u64; 66],
+    links: &mut [u32; 128],
+    label: &mut [u32; 64],
+) -> u64
+    requires edge { ⌜ (s .0 < 256) × (getD (now ss) (s .0) 0 < 256) ⌝ }
+    requires slot { ⌜ (getD (now cols) (s .0) 0 ≡ 0 → getD (now slot) (s .0) 0 < 64) ⌝ }
+    requires room { ⌜ LabelRoom (now words) (now links) (now label) ⌝ }
+    ensures { λ r. ⌜ SpareLabelled (s .0) live (now (cost .entry)) (now (ss .entry)) (now (cols .entry)) (now (slot .entry)) (now (words .entry))
+        (now (links .entry)) (now (label .entry)) (now (words .exit)) (now (links .exit)) (now (label .exit)) r ⌝ }
+{
+    if cols[s.0 as usize] != 0 {
+        return live;
+    }
+    let k = slot[s.0 as usize];
+    if !bits::has(live, k) {
+        return live;
+    }
+    let t = links[k as usize];
+    let x = cost_at(s.0, cost, ss);
+    let left = bits::without(live, k);
+    label_from(TreeRank(t), x, live, left, words, links, label)
+}
+
+// How many spare ranks, from the lowest on, are left as origins, and the slots that have no label yet.
+pub struct Origins {
+    pub spares: u32,
+    pub live: u64,
+}
+
+// The spare ranks left that cost at least `least` as origins, the dearest first.
+fn label_spares(
+    from: Origins,
+    least: u32,
+    cost: &[u32; 256],
+    ss: &[u32; 256],
+    cols: &[u64; 256],
+    slot: &[u32; 256],
+    words: &mut [u64; 66],
+    links: &mut [u32; 128],
+    label: &mut [u32; 64],
+) -> Origins
+    requires spares { ⌜ SparesRead (from .spares) (now ss) (now cols) (now slot) ⌝ }
+    requires room { ⌜ LabelRoom (now words) (now links) (now label) ⌝ }
+    ensures labelled { λ r. ⌜ SparesLabelled (from .spares) (from .live) least (now (cost .entry)) (now (ss .entry)) (now (cols .entry)) (now (slot .entry))
+        (now (words .entry)) (now (links .entry)) (now (label .entry)) (now (words .exit)) (now (links .exit)) (now (label .exit)) (r .spares) (r .live) ⌝ }
+    ensures cheaper { λ r. ⌜ (0 < r .spares → costAt (now (cost .entry)) (now (ss .entry)) (r .spares - 1) < least) ⌝ }
+{
+    let mut live = from.live;
+    let mut left = from.spares;
+    while 0 < left {
+        if cost_at(left - 1, cost, ss) < least {
+            return Origins {
+                spares: left,
+                live: live,
+            };
+        }
+        left -= 1;
+        live = label_spare(
+            SpareRank(left),
+            live,
+            cost,
+            ss,
+            cols,
+            slot,
+            words,
+            links,
+            label,
+        );
+    }
+    Origins {
+        spares: left,
+        live: live,
+    }
+}
+
+// Labels every slot: the origins in turn, by falling cost; a tree rank in no pair before spare ranks of the same cost.
 pub fn label(
     trees: u32,
     spares: u32,
     cost: &[u32; 256],
     ts: &[u32; 256],
     ss: &[u32; 256],
-    rows: &[u64; 256],
-    taken: &[u64; 4],
-    mates: &mut [u32; 256],
-    tree_label: &mut [u32; 64],
-    spare_label: &mut [u32; 256],
+    slots: u32,
+    cols: &[u64; 256],
+    slot: &[u32; 256],
+    words: &mut [u64; 66],
+    links: &mut [u32; 128],
+    label: &mut [u32; 64],
 )
-    requires { ⌜ Labellable trees spares (now cost) (now ts) (now ss) (now taken) (now mates) (now «tree_label») (now «spare_label») ⌝ }
-    ensures { λ r. ⌜ Labelled trees spares (now (cost .entry)) (now (ts .entry)) (now (ss .entry)) (now (rows .entry)) (now (mates .entry))
-        (now (mates .exit)) (now («tree_label» .exit)) (now («spare_label» .exit)) ⌝ }
+    requires { ⌜ Labellable trees spares slots (now cost) (now ts) (now ss) (now cols) (now slot) (now words) (now links) (now label) ⌝ }
+    ensures { λ r. ⌜ Labelled trees spares slots (now (cost .entry)) (now (ts .entry)) (now (ss .entry)) (now (cols .entry)) (now (slot .entry))
+        (now (words .entry)) (now (links .entry)) (now (words .exit)) (now (links .exit)) (now (label .exit)) ⌝ }
 {
-    let mut live = *taken;
-    let mut left = still_left(spares, &live);
-    let matched = matched_trees(left, mates);
-    own_costs(spares, cost, ss, spare_label);
-    let mut tree_done = 0u64;
-    let mut t = 0;
-    while 0 < trees - t + left {
-        if tree_next(TreeRank(t), left, trees, cost, ts, ss) {
-            let x = cost_at(t, cost, ts);
-            origin::label_tree(
-                TreeRank(t),
-                x,
-                matched,
-                rows,
-                mates,
-                &mut tree_done,
-                &mut live,
-                tree_label,
-                spare_label,
-            );
-            t += 1;
-        } else {
-            let s = left - 1;
-            let x = cost_at(s, cost, ss);
-            origin::label_spare(
-                SpareRank(s),
-                x,
-                rows,
-                mates,
-                &mut tree_done,
-                &mut live,
-                tree_label,
-                spare_label,
-            );
-            left = still_left(s, &live);
+    let mut free = bits::less(bits::below(trees), paired_trees(slots, links));
+    let mut at = Origins {
+        spares: spares,
+        live: bits::below(slots),
+    };
+    while free != 0 {
+        if at.live == 0 {
+            return;
         }
+        let t = bits::lowest(free);
+        let x = cost_at(t, cost, ts);
+        at = label_spares(at, x + 1, cost, ss, cols, slot, words, links, label);
+        at.live = label_from(TreeRank(t), x, at.live, at.live, words, links, label);
+        free = bits::without_lowest(free);
     }
+    label_spares(at, 0, cost, ss, cols, slot, words, links, label);
 }

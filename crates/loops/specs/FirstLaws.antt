@@ -1,15 +1,15 @@
 -- What `first` means: it is at most the bound, nothing before it is a hit, and it is a hit if it is below the bound;
 -- only one number has these properties. Assumes nothing.
-use Prim.Native.Nat.{ℕ, zero, suc, _+_, _-_, _*_, _/_, _%_, _≤_, _<_}
+use Prim.Native.Nat.{ℕ, zero, suc, _-_, _≤_, _<_}
 use native.Mathlib.Decide.{decLt, ℕ-discrete}
 use native.Mathlib.Omega.{arith}
-use mathlib.Core.Path.{_≡_, refl, sym, ap, _∙_, fun-ext}
+use mathlib.Core.Path.{_≡_, refl, sym, _∙_}
 use mathlib.Core.Logic.{_⊎_, inl, inr}
-use mathlib.Core.Bool.{Bool, true, false, cond, _&&_}
+use mathlib.Core.Bool.{Bool, true, false, cond}
 use lib.Dec.{ltb}
-use borrow.Author.Tests.{ltb-true, ltb-false, lt-ltb, le-ltb}
-use Rattle.loops.specs.Loop.{first, last, behind, inBlock, pick}
-use Rattle.loops.specs.TestLaws.{truth, clash, and-first, and-second}
+use borrow.Author.Tests.{ltb-true, lt-ltb, le-ltb}
+use Rattle.loops.specs.Loop.{first, last}
+use Rattle.loops.specs.TestLaws.{truth, clash}
 
 -- r is the lowest number below n of which p holds; n if there is none.
 pub record First (n : ℕ) (p : ℕ → Bool) (r : ℕ) : Type 0 where
@@ -140,112 +140,3 @@ pub last-none : (n : ℕ) (p : ℕ → Bool) (none : ℕ) → ((i : ℕ) → i <
 unfolding last
 last-none zero p none h = refl
 last-none (suc n) p none h = rw (h n (omega arith)) (last-none n p none (λ i l. h i (omega arith)))
-
--- ---- the pick of the first block
-
-module _ (n : ℕ) (p : ℕ → Bool) where
-  abbrev hit : ℕ → Bool
-  hit k = ltb (inBlock n p k) 64
-
-  -- A block with a hit.
-  block-hit : (k : ℕ) → hit k ≡ true → (64 * k + inBlock n p k < n) × (p (64 * k + inBlock n p k) ≡ true)
-  block-hit k h = elim (last-is 64 (λ j. ltb (64 * k + j) n && p (64 * k + j)) 64) [
-    | inl f ↦ (ltb-true (64 * k + inBlock n p k) n (and-first _ _ (f .hit)), and-second (ltb (64 * k + inBlock n p k) n) _ (f .hit))
-    | inr f ↦ absurd (omega (arith, ltb-true (inBlock n p k) 64 h, f .0))
-  ]
-
-  -- One without.
-  block-miss : (k : ℕ) → hit k ≡ false → (j : ℕ) → j < 64 → 64 * k + j < n → p (64 * k + j) ≡ false
-  block-miss k h j l m = elim (last-is 64 (λ j. ltb (64 * k + j) n && p (64 * k + j)) 64) [
-    | inl f ↦ absurd (omega (arith, ltb-false (inBlock n p k) 64 h, f .within))
-    | inr f ↦ rw (lt-ltb (64 * k + j) n m) at (f .1 j l)
-  ]
-
-  -- It is a hit below n, or there is none.
-  pub pick-is : ((pick n p < n) × (p (pick n p) ≡ true)) ⊎ ((pick n p ≡ n) × ((i : ℕ) → i < n → p i ≡ false))
-  unfolding pick
-  pick-is = elim (decLt (first n hit) n) [
-    | yes l ↦ rw (lt-ltb (first n hit) n l) (inl (block-hit (first n hit) (first-is n hit .hit l)))
-    | no l ↦ rw (le-ltb (first n hit) n (omega arith)) (inr (refl, none (omega arith)))
-  ]
-    where
-      none : n ≤ first n hit → (i : ℕ) → i < n → p i ≡ false
-      none l i m =
-          let e : 64 * (i / 64) + i % 64 ≡ i = omega arith in
-          rw e at (block-miss (i / 64) (first-is n hit .before (i / 64) (omega arith)) (i % 64) (omega arith) (omega arith))
-
--- Bounds and tests that name the same numbers pick the same.
-pub pick-same :
-    (n m : ℕ) (p q : ℕ → Bool) → ((i : ℕ) → (ltb i n && p i) ≡ (ltb i m && q i)) → pick n p < n → pick m q ≡ pick n p
-unfolding pick
-pick-same n m p q e = found (first-is n (hit n p)) (truth (ltb (first n (hit n p)) n))
-  where
-    same : (k : ℕ) → inBlock m q k ≡ inBlock n p k
-    same k = last-same 64 (λ j. ltb (64 * k + j) m && q (64 * k + j)) (λ j. ltb (64 * k + j) n && p (64 * k + j)) 64 (λ j l. sym (e (64 * k + j)))
-
-    found :
-        First n (hit n p) (first n (hit n p)) → (ltb (first n (hit n p)) n ≡ true) ⊎ (ltb (first n (hit n p)) n ≡ false)
-        → cond (ltb (first n (hit n p)) n) (64 * first n (hit n p) + inBlock n p (first n (hit n p))) n < n
-        → cond (ltb (first m (hit m q)) m) (64 * first m (hit m q) + inBlock m q (first m (hit m q))) m
-        ≡ cond (ltb (first n (hit n p)) n) (64 * first n (hit n p) + inBlock n p (first n (hit n p))) n
-    found f (inr h) l = absurd (omega (arith, rw h at l))
-    found f (inl h) l =
-        let k : ℕ = first n (hit n p) in
-        let at : hit n p k ≡ true = f .hit (ltb-true k n h) in
-        let below : 64 * k + inBlock n p k < m = ltb-true _ m (and-first _ _ (sym (e (64 * k + inBlock n p k)) ∙ both k at)) in
-        let is : first m (hit m q) ≡ k = first-found (record {
-          within = omega arith;
-          before = λ i b. ap (λ r. ltb r 64) (same i) ∙ f .before i b;
-          hit = λ _. ap (λ r. ltb r 64) (same k) ∙ at;
-        }) in
-        rw (is, h, lt-ltb k m (omega arith), same k)
-      where
-        both : (k : ℕ) → hit n p k ≡ true → (ltb (64 * k + inBlock n p k) n && p (64 * k + inBlock n p k)) ≡ true
-        both k h = let (a, b) = block-hit n p k h in rw (lt-ltb (64 * k + inBlock n p k) n a) b
-
-pub pick-ext : (n : ℕ) (p q : ℕ → Bool) → ((i : ℕ) → i < n → p i ≡ q i) → pick n p ≡ pick n q
-unfolding pick
-pick-ext n p q e =
-    ap (λ (block : ℕ → ℕ). let k : ℕ = first n (λ k. ltb (block k) 64) in cond (ltb k n) (64 * k + block k) n) (fun-ext same)
-  where
-    same : (k : ℕ) → inBlock n p k ≡ inBlock n q k
-    same k =
-        last-same 64 (λ j. ltb (64 * k + j) n && p (64 * k + j)) (λ j. ltb (64 * k + j) n && q (64 * k + j)) 64
-        (λ j l. elim (decLt (64 * k + j) n) [
-          | yes m ↦ rw (lt-ltb (64 * k + j) n m) (e (64 * k + j) m)
-          | no m ↦ rw (le-ltb (64 * k + j) n (omega arith))
-        ])
-
--- ---- the number behind the highest
-
-pub behind-none : (n : ℕ) (p : ℕ → Bool) → ((i : ℕ) → i < n → p i ≡ false) → behind n p ≡ 0
-unfolding behind
-behind-none zero p h = refl
-behind-none (suc n) p h = rw (h n (omega arith)) (behind-none n p (λ i l. h i (omega arith)))
-
-pub behind-last : (n : ℕ) (p : ℕ → Bool) (r : ℕ) → Last n p r → behind n p ≡ suc r
-unfolding behind
-behind-last zero p r f = absurd (omega (arith, f .within))
-behind-last (suc n) p r f = elim (ℕ-discrete r n) [
-  | yes e ↦ rw (rw e at (f .hit)) (ap suc (sym e))
-  | no d ↦
-      rw (f .after n (omega (arith, f .within)) (omega arith))
-      (behind-last n p r (record { within = omega (arith, f .within); hit = f .hit; after = λ i a b. f .after i a (omega arith) }))
-]
-
--- From it on p holds of none.
-pub behind-past : (n : ℕ) (p : ℕ → Bool) (i : ℕ) → behind n p ≤ i → i < n → p i ≡ false
-unfolding behind
-behind-past zero p i l m = absurd (omega arith)
-behind-past (suc n) p i l m = elim (truth (p n)) [
-  | inl h ↦ absurd (omega (arith, rw h at l))
-  | inr h ↦ elim (ℕ-discrete i n) [
-    | yes e ↦ rw e h
-    | no d ↦ behind-past n p i (rw h at l) (omega arith)
-  ]
-]
-
-pub behind-same : (n : ℕ) (p q : ℕ → Bool) → ((i : ℕ) → i < n → p i ≡ q i) → behind n p ≡ behind n q
-unfolding behind
-behind-same zero p q e = refl
-behind-same (suc n) p q e = rw (e n (omega arith), behind-same n p q (λ i l. e i (omega arith)))

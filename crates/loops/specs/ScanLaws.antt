@@ -64,3 +64,21 @@ module _ {A : Type 0} where
         scan-writes body e k x turns (suc i) (body i f) (omega arith) (omega arith) writes
         (λ j h l u. kept j h l (omega arith))
   ]
+
+module _ {A : Type 0} where
+  -- Turns that do the same where P holds, and keep P.
+  pub scan-alike :
+      (f h : ℕ → A → A) (P : A → Type 0) (turns i : ℕ) (st : A) → P st
+      → ((k : ℕ) (s : A) → i ≤ k → k < i + turns → P s → (f k s ≡ h k s) × P (h k s))
+      → scan f turns i st ≡ scan h turns i st
+  unfolding scan
+  scan-alike f h P zero i st start alike = refl
+  scan-alike f h P (suc turns) i st start alike =
+      let turn : (f i st ≡ h i st) × P (h i st) = alike i st (omega arith) (omega arith) start in
+      rw (turn .0) (scan-alike f h P turns (suc i) (h i st) (turn .1) (λ k s l m. alike k s (omega arith) (omega arith)))
+
+  -- Turns that do the same.
+  pub scan-same :
+      (f h : ℕ → A → A) (turns i : ℕ) (st : A) → ((k : ℕ) (s : A) → i ≤ k → k < i + turns → f k s ≡ h k s)
+      → scan f turns i st ≡ scan h turns i st
+  scan-same f h turns i st same = scan-alike f h (λ _. Unit) turns i st tt (λ k s l m _. (same k s l m, tt))

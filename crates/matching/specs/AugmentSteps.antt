@@ -1,372 +1,447 @@
--- One more tree rank: code and model look for the same ranks, and every way out of the code meets the model's.
--- Assumes nothing.
-use Prim.Native.Nat.{ℕ, _+_, _-_, _^_, _≤_, _<_}
-use native.Mathlib.Decide.{decLt}
+-- One more tree rank: every way out of the code meets the model's. Assumes nothing.
+use Prim.Native.Nat.{ℕ, suc, _+_, _-_, _≤_, _<_}
+use native.Mathlib.Decide.{ℕ-discrete}
 use native.Mathlib.Omega.{arith}
-use mathlib.Core.Path.{_≡_, refl, sym, ap, ap₂, _∙_, fun-ext}
-use mathlib.Core.Logic.{inl, inr}
-use mathlib.Core.Bool.{Bool, true, false, cond, not, _&&_, _||_, Bool·not-not}
+use mathlib.Core.Path.{_≡_, refl, sym, ap, subst, _∙_}
+use mathlib.Core.Logic.{_≢_, inl, inr}
+use mathlib.Core.Bool.{Bool, true, false, _&&_, _||_}
 use mathlib.Core.List.{List}
 use lib.Dec.{ltb, eqb}
-use lib.ListN.{length, getD}
-use borrow.Author.Tests.{lt-ltb, le-ltb, ltb-true, not-true}
-use Rattle.loops.specs.Below.{choose}
-use Rattle.loops.specs.Loop.{first}
-use Rattle.loops.specs.TestLaws.{clash, and-first, and-second, and-both, same-test}
-use Rattle.loops.specs.FirstLaws.{First, first-is, first-found, some-of, some-at}
+use lib.ListN.{getD}
+use lib.Seq.{getD-set-same, getD-set-other}
+use borrow.Author.Tests.{eq-eqb, ne-eqb, eqb-true, ltb-true}
+use Rattle.loops.specs.Loop.{put}
+use Rattle.loops.specs.TestLaws.{clash, and-first, and-second, or-either}
+use Rattle.loops.specs.PutLaws.{put-same, put-other}
+use Rattle.loops.specs.FirstLaws.{first-is}
 use Rattle.bits.specs.Bit.{bit}
-use Rattle.bits.specs.BitLaws.{bit-past}
-use Rattle.sets.specs.Sets.{member, inRow, inSome}
-use Rattle.sets.specs.SetsLaws.{member-put}
-use Rattle.optimum.specs.Search.{Problem, Mates, Search, search, Progress, begun, coversSome}
-use Rattle.optimum.specs.Search.{newTrees, goalOf, cheapestOf, worth, turned, givenUp, augmentReached, augment}
-use Rattle.optimum.specs.SearchLaws.{Explored, Always, search-fails}
-use Rattle.search.specs.State.{arrayMates, stateOf, Below, Rows}
-use Rattle.matching.specs.Progress.{progressOf, Holds, goalCost, Seekable, Sought, Augmentable, Augmented}
+use Rattle.bits.specs.ChangeLaws.{added}
+use Rattle.goals.specs.Over.{nextOver}
+use Rattle.goals.specs.OverLaws.{over-is, over-common}
 use Rattle.graph.specs.Rank.{costAt}
+use Rattle.optimum.specs.Search.{Problem, Mates, Slots, matesIn, Search, search, turn, Progress, cheapestOf, hitOf, goalOf, worth, turned, givenUp, augmentBy}
+use Rattle.optimum.specs.Search.{augment, built}
+use Rattle.optimum.specs.Slackness.{Ranked, Valid}
+use Rattle.optimum.specs.SlotLaws.{HeldSlots, slot-below}
+use Rattle.optimum.specs.SearchLaws.{search-closed}
+use Rattle.optimum.specs.MatchingProof.{built-held, built-valid}
+use Rattle.search.specs.Board.{stateOf, Ready, Explored}
+use Rattle.search.specs.BoardLaws.{Fits, FoundSearch, explored-found}
+use Rattle.slots.specs.Paired.{hitIn, ways, Pairing, PairPut}
+use Rattle.slots.specs.PairLaws.{turn-same}
+use Rattle.matching.specs.Tables.{Holds, Tables, tables, Sized, HoldsPairs, HoldsProgress}
+use Rattle.matching.specs.Build.{goalCost, Clean, Safe, Augmentable, Augmented}
+use Rattle.matching.specs.FindLaws.{column-covers, cheapest-is, goal-is, goal-hit-is, goal-within, worth-off, worth-on, gain-is}
+use Rattle.matching.specs.PairSteps.{turn-near, mates-kept, pairs-put}
 
 -- The model's ways.
 module _ (p : Problem) (t : ℕ) (pr : Progress) where
-  augment-none : worth p t (cheapestOf p pr) ≡ false → augment p t pr ≡ pr
+  augment-none : worth p t (cheapestOf p (matesIn (pr .pairs))) ≡ false → augment p t pr ≡ pr
   unfolding augment
   augment-none h = rw h
 
-  augment-tried : worth p t (cheapestOf p pr) ≡ true → (st : Search) → search p (cheapestOf p pr) t (begun pr) ≡ st
-      → augment p t pr ≡ choose (st .met) (λ _. turned p t pr (cheapestOf p pr) st) (λ _. augmentReached p t pr st)
+  augment-tried :
+      (c : ℕ) → cheapestOf p (matesIn (pr .pairs)) ≡ c → worth p t c ≡ true
+      → augment p t pr ≡ augmentBy p t pr (search p (pr .pairs) (λ x. p .covers x c) (pr .live) t)
   unfolding augment
-  augment-tried h st e = rw (h, e)
+  augment-tried c e h = rw (e, h)
 
-  reached-on :
-      (st : Search) →
-      worth p t (goalOf p pr st) ≡ true →
-      augmentReached p t pr st ≡ turned p t pr (goalOf p pr st) (search p (goalOf p pr st) t (begun pr))
-  reached-on st h = rw h
+  tried-on :
+      (st : Search) (g : ℕ) → goalOf p (matesIn (pr .pairs)) (st .seen) ≡ g → worth p t g ≡ true → augmentBy p t pr st ≡ turned p t pr g st
+  tried-on st g e h = rw (e, h)
 
-  reached-off : (st : Search) → worth p t (goalOf p pr st) ≡ false
-      → augmentReached p t pr st ≡ givenUp pr st
-  reached-off st h = rw h
+  tried-off : (st : Search) (g : ℕ) → goalOf p (matesIn (pr .pairs)) (st .seen) ≡ g → worth p t g ≡ false → augmentBy p t pr st ≡ givenUp pr st
+  tried-off st g e h = rw (e, h)
 
--- A goal that costs less than a number of 32 bits is a spare rank, and the test of its cost is the model's.
-goal-test : (b : Bool) (x y : ℕ) → y < 4294967296 → (b && ltb x y) ≡ ltb (cond b x 4294967295) y
-goal-test true x y k = refl
-goal-test false x y k = sym (le-ltb 4294967295 y (omega arith))
+built-next : (p : Problem) (t : ℕ) → built p (suc t) ≡ augment p t (built p t)
+unfolding built
+built-next p t = refl
 
-within-test : (b : Bool) (x y : ℕ) → y < 4294967296 → cond b x 4294967295 < y → b ≡ true
-within-test true x y k h = refl
-within-test false x y k h = absurd (omega arith)
+-- The pairs, and the mates, before the turn of tree rank t; and the exploration from it that ends under spare rank c.
+abbrev pairsAt : Problem → ℕ → Slots
+pairsAt p t = built p t .pairs
 
-goal-within : (spares : ℕ) (cost ss : List ℕ) (goal high : ℕ) → high < 4294967296 → goalCost spares cost ss goal < high → goal < spares
-goal-within spares cost ss goal high k h = ltb-true goal spares (within-test (ltb goal spares) (costAt cost ss goal) high k h)
+abbrev matesAt : Problem → ℕ → Mates
+matesAt p t = matesIn (built p t .pairs)
 
--- The code looks among 256 numbers, the model among the spare ranks.
-module _
-    {p : Problem}
-    {spares : ℕ}
-    {cost ts ss rows : List ℕ}
-    (h : Holds p spares cost ts ss rows)
-    {t : ℕ}
-    (l : t < p .trees)
-    {high : ℕ}
-    (high-is : high ≡ costAt cost ts t)
-    (high-small : high < 4294967296)
-    {P Q : ℕ → Bool}
-    (same : (s : ℕ) → s < p .spares → P s ≡ Q s)
-    {g : ℕ}
-    (lowest : First 256 P g)
-  where
-    found : g < p .spares → first (p .spares) Q ≡ g
-    found k =
-        first-found (record {
-          within = omega arith;
-          before = λ s m. sym (same s (omega arith)) ∙ lowest .before s m;
-          hit = λ m. sym (same g k) ∙ lowest .hit (omega (arith, h .rows-are .few));
-        })
+abbrev exploration : Problem → ℕ → ℕ → ℕ → Search
+exploration p t c live = search p (built p t .pairs) (λ x. p .covers x c) (bit live) t
 
-    none : p .spares ≤ g → first (p .spares) Q ≡ p .spares
-    none k =
-        first-found (record {
-          within = omega arith;
-          before = λ s m. sym (same s m) ∙ lowest .before s (omega arith);
-          hit = λ m. absurd (omega arith);
-        })
-
-    worth-is : worth p t (first (p .spares) Q) ≡ (ltb g spares && ltb (costAt cost ss g) (costAt cost ts t))
-    worth-is =
-        elim (decLt g (p .spares)) [
-          | yes k ↦ ap (worth p t) (found k) ∙ rw (h .spare-cost g k, h .tree-cost t l, h .spares-are)
-          | no k ↦
-              ap (worth p t) (none (omega arith))
-              ∙ rw (le-ltb (p .spares) (p .spares) (omega arith), le-ltb g spares (omega (arith, h .spares-are)))
-        ]
-
-    worth-same : worth p t (first (p .spares) Q) ≡ ltb (goalCost spares cost ss g) high
-    worth-same =
-        worth-is ∙ ap (λ (x : ℕ). ltb g spares && ltb (costAt cost ss g) x) (sym high-is) ∙ goal-test (ltb g spares) (costAt cost ss g) high high-small
-
-    module _ {low : ℕ} (low-is : low ≡ goalCost spares cost ss g) where
-      worth-off : high ≤ low → worth p t (first (p .spares) Q) ≡ false
-      worth-off k = worth-same ∙ le-ltb (goalCost spares cost ss g) high (omega (arith, low-is))
-
-      module _ (less : low < high) where
-        worth-on : worth p t (first (p .spares) Q) ≡ true
-        worth-on = worth-same ∙ lt-ltb (goalCost spares cost ss g) high (omega (arith, low-is))
-
-        within : g < spares
-        within = goal-within spares cost ss g high high-small (omega (arith, low-is))
-
-        found-worth : first (p .spares) Q ≡ g
-        found-worth = found (rw (← h .spares-are) at within)
-
-        -- What a chain to it adds to the weight.
-        gain-is : high - low ≡ p .treeCost t - p .spareCost g
-        gain-is =
-            let inside : g < p .spares = rw (← h .spares-are) at within in
-            rw (h .tree-cost t l, h .spare-cost g inside, high-is, low-is, lt-ltb g spares within)
-
--- What covers some tree rank that is newly seen: by the rows, and by the problem.
-module _
-    (p : Problem)
-    (rows : List ℕ)
-    (are : Rows p rows)
-    (T : ℕ → Bool)
-    (below : (x : ℕ) → T x ≡ true → (x < p .trees) × (x < 64))
-    (s : ℕ)
-    (l : s < p .spares)
-  where
-    some-same : inSome rows T s ≡ coversSome p T s
-    some-same = same-test _ _ forth back
-      where
-        forth : inSome rows T s ≡ true → coversSome p T s ≡ true
-        forth h =
-            let (x, b, both) = some-at 64 (λ x. T x && inRow rows x s) h in
-            let k : x < p .trees = below x (and-first _ _ both) .0 in
-            some-of (p .trees) (λ x. T x && p .covers x s) x k
-            (and-both (T x) (p .covers x s) (and-first _ _ both) (are .covered x s k l ∙ and-second (T x) _ both))
-
-        back : coversSome p T s ≡ true → inSome rows T s ≡ true
-        back h =
-            let (x, k, both) = some-at (p .trees) (λ x. T x && p .covers x s) h in
-            some-of 64 (λ x. T x && inRow rows x s) x (below x (and-first _ _ both) .1)
-            (and-both (T x) (inRow rows x s) (and-first _ _ both) (sym (are .covered x s k l) ∙ and-second (T x) _ both))
-
--- What is known before the first search: the cheapest unmatched rank, and what it and tree rank t cost.
-pub record Compared (t weight spares : ℕ) (cost ts ss rows mates taken : List ℕ) (trees : ℕ) (live : List ℕ) (cheapest high least : ℕ) : Type 0 where
-  pub able : Augmentable t weight spares ts ss mates taken trees live
-  pub lowest : cheapest ≡ first 256 (λ s. not (member taken s))
+-- What is known before the exploration: the cheapest spare rank in no pair, and what it and tree rank t cost.
+pub record Compared (t slots low live weight trees spares : ℕ) (cost ts ss : List ℕ) (b : Tables) (all low′ high least : ℕ) : Type 0 where
+  pub able : Augmentable t slots low weight trees spares ts ss b
+  pub whole : (j : ℕ) → bit all j ≡ ltb j trees
+  pub low-is : low′ ≡ nextOver low spares all (b .cols)
   pub high-is : high ≡ costAt cost ts t
   pub high-small : high < 4294967296
-  pub least-is : least ≡ goalCost spares cost ss cheapest
+  pub least-is : least ≡ goalCost spares cost ss low′
 
 module _
-    {t weight spares : ℕ}
-    {cost ts ss rows mates taken : List ℕ}
-    {trees : ℕ}
-    {live : List ℕ}
-    {c high least : ℕ}
-    (known : Compared t weight spares cost ts ss rows mates taken trees live c high least)
+    {t slots low live weight trees spares : ℕ}
+    {cost ts ss : List ℕ}
+    {b : Tables}
+    {all low′ high least : ℕ}
+    (known : Compared t slots low live weight trees spares cost ts ss b all low′ high least)
   where
-    abbrev Out : List ℕ → List ℕ → ℕ → List ℕ → ℕ → Type 0
-    Out = Augmented t weight spares cost ts ss rows mates trees live
+    abbrev Out : ℕ → ℕ → ℕ → ℕ → Tables → Type 0
+    Out = Augmented t slots low live weight trees spares cost ts ss b
 
-    abbrev pr : Progress
-    pr = progressOf mates trees live weight
+    abbrev safe : Safe t spares slots low weight b
+    safe = known .able .safe
 
-    cheapest-first : First 256 (λ s. not (member taken s)) c
-    cheapest-first = rw (known .lowest) (first-is 256 (λ s. not (member taken s)))
+    pub low-within : low′ ≤ spares
+    low-within = rw (known .low-is) (over-is low spares all (b .cols) (safe .within) .within)
 
-    cheapest-same : (p : Problem) → Holds p spares cost ts ss rows → (s : ℕ) → s < p .spares → not (member taken s) ≡ eqb (getD mates s 0) 0
-    cheapest-same p h s k = rw (known .able .taken-are s (omega (arith, h .rows-are .few)), Bool·not-not (eqb (getD mates s 0) 0))
+    -- The tables hold the model's progress.
+    module _
+        (p : Problem)
+        (cols₀ : List ℕ)
+        (r : Ranked p)
+        (h : Holds p trees spares cost ts ss cols₀)
+        (hp : HoldsProgress p (built p t) cols₀ slots low live weight b)
+      where
+        rank : t < p .trees
+        rank = omega (arith, h .trees-are, known .able .rank)
+
+        cheapest : low′ ≡ cheapestOf p (matesAt p t)
+        cheapest =
+            known .low-is
+            ∙ cheapest-is h (matesAt p t) (b .cols) (hp .pairs .columns) (known .able .few-trees) all (known .whole) low (safe .within) (hp .low-paired)
+
+        low-paired : (s : ℕ) → s < low′ → s < p .spares → matesAt p t s ≢ 0
+        low-paired s a _ e = clash (eq-eqb (matesAt p t s) 0 e) (first-is (p .spares) (λ s. eqb (matesAt p t s) 0) .before s (omega (arith, cheapest)))
+
+        none-holds : high ≤ least → HoldsProgress p (built p (suc t)) cols₀ slots low′ live weight b
+        none-holds off =
+            subst (λ (pr : Progress). HoldsProgress p pr cols₀ slots low′ live weight b)
+            (sym (built-next p t ∙ augment-none p t (built p t)
+            (rw (← cheapest) (worth-off h (known .able .rank) (known .high-is) (known .high-small) low′ (known .least-is) off))))
+            record {
+              slots-are = hp .slots-are;
+              live-are = hp .live-are;
+              live-below = hp .live-below;
+              weighs = hp .weighs;
+              low-paired = low-paired;
+              pairs = hp .pairs;
+            }
 
     -- Even the cheapest costs too much, or there is none.
-    pub augmented-none : high ≤ least → Out mates taken trees live weight
+    pub augmented-none : high ≤ least → Out slots low′ live weight b
     augmented-none off =
         record {
-          mates-length = known .able .mates-length;
-          taken-length = known .able .taken-length;
-          live-length = known .able .live-length;
-          below = λ n k b. b;
-          unseen = λ n k b u. u;
-          taken-are = known .able .taken-are;
-          most = omega (arith, known .high-small);
-          equal = λ p h b l.
-              sym (augment-none p t pr (worth-off h l (known .high-is) (known .high-small) (cheapest-same p h) cheapest-first (known .least-is) off));
+          safe =
+              record {
+                sized = safe .sized;
+                few = omega (arith, safe .few);
+                within = low-within;
+                room = omega (arith, safe .room);
+                clean = safe .clean;
+                placed = safe .placed;
+              };
+          holds = λ p cols₀ r h hp. none-holds p cols₀ r h hp off;
+        }
+
+    pub explore-ready : Ready t (b .words) (b .links)
+    explore-ready =
+        record {
+          rank = omega (arith, known .able .rank, known .able .few-trees);
+          words-length = safe .sized .words-length;
+          links-length = safe .sized .links-length;
+          below = safe .sized .partners;
         }
 
     module _ (on : least < high) where
-      pub cheapest-seekable : Seekable t c mates taken trees live
-      cheapest-seekable =
-          record {
-            fresh = known .able .fresh;
-            ready = record {
-              rank = known .able .rank;
-              mates-length = known .able .mates-length;
-              live-length = known .able .live-length;
-              below = known .able .below;
-            };
-            taken-length = known .able .taken-length;
-            taken-are = known .able .taken-are;
-            within = omega (arith, goal-within spares cost ss c high (known .high-small) (omega (arith, known .least-is)), known .able .few);
-          }
+      pub low-below : low′ < spares
+      low-below = goal-within spares cost ss low′ high least (known .high-small) (known .least-is) on
 
       module _
-          {mates₁ taken₁ : List ℕ}
-          {trees₁ : ℕ}
-          {live₁ : List ℕ}
-          {met : Bool}
-          (first-search : Sought t c rows mates trees live mates₁ taken₁ trees₁ live₁ met)
+          {words₁ links₁ : List ℕ}
+          {live₁ : ℕ}
+          (explored : Explored t live (getD (b .cols) low′ 0) (b .words) (b .links) words₁ links₁ live₁)
+          {goal least₁ : ℕ}
+          (found-goal : goal ≡ nextOver low′ spares (getD words₁ 64 0) (b .cols))
+          (least₁-is : least₁ ≡ goalCost spares cost ss goal)
         where
-          cheapest-is : (p : Problem) → Holds p spares cost ts ss rows → t < p .trees → cheapestOf p pr ≡ c
-          cheapest-is p h l = found-worth h l (known .high-is) (known .high-small) (cheapest-same p h) cheapest-first (known .least-is) on
+          abbrev b₁ : Tables
+          b₁ = tables (b .cols) words₁ links₁ (b .spare) (b .slot)
 
-          tried : (p : Problem) → Holds p spares cost ts ss rows → Below (p .trees) mates → t < p .trees
-              → augment p t pr
-              ≡ choose met (λ _. turned p t pr (cheapestOf p pr) (stateOf mates₁ trees₁ live₁ met))
-              (λ _. augmentReached p t pr (stateOf mates₁ trees₁ live₁ met))
-          tried p h b l =
-              augment-tried p t pr
-              (worth-on h l (known .high-is) (known .high-small) (cheapest-same p h) cheapest-first (known .least-is) on)
-              (stateOf mates₁ trees₁ live₁ met)
-              (ap (λ (j : ℕ). search p j t (begun pr)) (cheapest-is p h l) ∙ sym (first-search .equal p (h .rows-are) b l))
-
-          -- The cheapest has been met.
-          pub augmented-met :
-              met ≡ true →
-              {live′ : List ℕ} →
-              ((j : ℕ) → member live′ j ≡ (member live j || eqb c j)) →
-              length live′ ≡ 4 →
-              Out mates₁ taken₁ trees live′ (weight + (high - least))
-          augmented-met m {live′} more size =
+          sized₁ : Sized b₁
+          sized₁ =
               record {
-                mates-length = first-search .mates-length;
-                taken-length = first-search .taken-length;
-                live-length = size;
-                below = first-search .below;
-                unseen = λ n k b u. u;
-                taken-are = first-search .taken-are;
-                most = omega (arith, known .high-small);
-                equal = λ p h b l.
-                    ap₂ (λ (x : ℕ) (f : ℕ → Bool). record { mates = arrayMates mates₁; weight = weight + x; treeDead = bit trees; spareLive = f })
-                    (gain-is h l (known .high-is) (known .high-small) (cheapest-same p h) cheapest-first (known .least-is) on)
-                    (member-put live live′ c more)
-                    ∙ ap (λ (j : ℕ). turned p t pr j (stateOf mates₁ trees₁ live₁ true)) (sym (cheapest-is p h l))
-                    ∙ sym (rw m at (tried p h b l));
+                cols-length = safe .sized .cols-length;
+                words-length = explored .kept .words-length;
+                links-length = explored .kept .links-length;
+                spare-length = safe .sized .spare-length;
+                slot-length = safe .sized .slot-length;
+                partners = λ k l. rw (explored .kept .partners k l) (safe .sized .partners k l);
               }
 
-          -- Another goal that is worth it.
-          pub goal-seekable : {g low : ℕ} → low ≡ goalCost spares cost ss g → low < high → Seekable t g mates₁ taken₁ trees live
-          goal-seekable {g} low-is less =
-              record {
-                fresh = known .able .fresh;
-                ready = record {
-                  rank = known .able .rank;
-                  mates-length = first-search .mates-length;
-                  live-length = known .able .live-length;
-                  below = first-search .below 64 (known .able .rank) (known .able .below);
-                };
-                taken-length = first-search .taken-length;
-                taken-are = first-search .taken-are;
-                within = omega (arith, goal-within spares cost ss g high (known .high-small) (omega (arith, low-is)), known .able .few);
-              }
+          clean₁ : Clean slots words₁
+          clean₁ x k a l = rw (explored .kept .rows x a) (safe .clean x k a l)
 
-          -- It has not: the goal is the cheapest one reached.
           module _
-              (m : met ≡ false)
-              {news : ℕ}
-              (word : news < 2 ^ 64)
-              (news-are : (j : ℕ) → bit news j ≡ (bit trees₁ j && not (bit trees j)))
-              {g : ℕ}
-              (goal : g ≡ first 256 (λ s. inSome rows (bit news) s && not (member taken₁ s)))
-              {low : ℕ}
-              (low-is : low ≡ goalCost spares cost ss g)
+              (p : Problem)
+              (cols₀ : List ℕ)
+              (r : Ranked p)
+              (h : Holds p trees spares cost ts ss cols₀)
+              (hp : HoldsProgress p (built p t) cols₀ slots low live weight b)
             where
-              same : arrayMates mates₁ ≡ arrayMates mates
-              same = first-search .same m
+              low-spare : low′ < p .spares
+              low-spare = rw (h .spares-are) low-below
 
-              goal-first : First 256 (λ s. inSome rows (bit news) s && not (member taken₁ s)) g
-              goal-first = rw goal (first-is 256 (λ s. inSome rows (bit news) s && not (member taken₁ s)))
+              low-free : matesAt p t low′ ≡ 0
+              low-free =
+                  rw (cheapest p cols₀ r h hp)
+                  (eqb-true _ 0 (first-is (p .spares) (λ s. eqb (matesAt p t s) 0) .hit (rw (← cheapest p cols₀ r h hp) low-spare)))
 
-              -- The tree ranks newly seen are tree ranks of the problem.
-              new-below : (p : Problem) → Rows p rows → Below (p .trees) mates → t < p .trees → (x : ℕ) → bit news x ≡ true → (x < p .trees) × (x < 64)
-              new-below p are b l x q = (elim (explored .grown .new-tree x seen) [ inl h ↦ clash h fresh | inr h ↦ h .holds ], small)
-                where
-                  st : Search
-                  st = search p c t (stateOf mates trees live false)
-
-                  is : stateOf mates₁ trees₁ live₁ false ≡ st
-                  is = ap (stateOf mates₁ trees₁ live₁) (sym m) ∙ first-search .equal p are b l
-
-                  explored : Explored p c (arrayMates mates) (λ x. x < p .trees) Always (stateOf mates trees live false) t st
-                  explored =
-                      search-fails p c (stateOf mates trees live false) (λ x. x < p .trees) Always
-                      record { to-spare = λ x s k o e f. tt; to-mate = λ s x k o e f. omega (arith, b s, e) }
-                      (λ s x k e. omega (arith, b s, e)) t l refl (sym (ap (λ (st : Search). st .met) is))
-
-                  seen : st .treeSeen x ≡ true
-                  seen = sym (ap (λ (st : Search). st .treeSeen x) is) ∙ and-first _ _ (sym (news-are x) ∙ q)
-
-                  fresh : bit trees x ≡ false
-                  fresh = not-true _ (and-second (bit trees₁ x) _ (sym (news-are x) ∙ q))
-
-                  small : x < 64
-                  small = elim (decLt x 64) [ yes k ↦ k | no k ↦ clash q (bit-past 64 news x word (omega arith)) ]
-
-              goal-same : (p : Problem) → Holds p spares cost ts ss rows → Below (p .trees) mates → t < p .trees → (s : ℕ) → s < p .spares
-                  → (inSome rows (bit news) s && not (member taken₁ s)) ≡ (coversSome p (newTrees pr (stateOf mates₁ trees₁ live₁ false)) s && eqb
-                  (getD mates s 0) 0)
-              goal-same p h b l s k =
-                  rw (
-                    first-search .taken-are s (omega (arith, h .rows-are .few)),
-                    Bool·not-not (eqb (getD mates₁ s 0) 0),
-                    ap (λ (f : Mates). f s) same,
-                    some-same p rows (h .rows-are) (bit news) (new-below p (h .rows-are) b l) s k,
-                  )
-                  (ap (λ (T : ℕ → Bool). coversSome p T s && eqb (getD mates s 0) 0) (fun-ext news-are))
-
-              failed : (p : Problem) → Holds p spares cost ts ss rows → Below (p .trees) mates → t < p .trees
-                  → augment p t pr ≡ augmentReached p t pr (stateOf mates₁ trees₁ live₁ false)
-              failed p h b l = rw m at (tried p h b l)
-
-              pub augmented-off : high ≤ low → Out mates₁ taken₁ trees₁ live₁ weight
-              augmented-off off =
+              fits : Fits p (pairsAt p t) (b .words) (b .links)
+              fits =
                   record {
-                    mates-length = first-search .mates-length;
-                    taken-length = first-search .taken-length;
-                    live-length = first-search .live-length;
-                    below = first-search .below;
-                    unseen = first-search .unseen;
-                    taken-are = first-search .taken-are;
-                    most = omega (arith, known .high-small);
-                    equal = λ p h b l.
-                        ap₂ (λ (f : Mates) (v : ℕ → Bool). record { mates = f; weight = weight; treeDead = bit trees₁; spareLive = v }) same
-                        (fun-ext (λ s. sym (Bool·not-not (member live₁ s))))
-                        ∙ sym (failed p h b l ∙ reached-off p t pr (stateOf mates₁ trees₁ live₁ false)
-                        (worth-off h l (known .high-is) (known .high-small) (goal-same p h b l) goal-first low-is off));
+                    few = omega (arith, hp .slots-are, safe .few, known .able .rank, known .able .few-trees);
+                    ranks = omega (arith, h .trees-are, known .able .few-trees);
+                    covered = hp .pairs .rows;
+                    own = λ k l. sym (hp .pairs .own k l);
+                    below = hp .pairs .below;
                   }
 
-              pub augmented-on :
-                  low < high →
-                  {mates₂ taken₂ : List ℕ} {trees₂ : ℕ} {live₂ : List ℕ} {met₂ : Bool} →
-                  Sought t g rows mates₁ trees live mates₂ taken₂ trees₂ live₂ met₂
-                  → {live′ : List ℕ} → ((j : ℕ) → member live′ j ≡ (member live j || eqb g j)) → length live′ ≡ 4
-                  → Out mates₂ taken₂ trees live′ (weight + (high - low))
-              augmented-on less {mates₂ = mates₂} second-search {live′} more size =
+              found : FoundSearch t words₁ links₁ live₁ (exploration p t low′ live)
+              found =
+                  explored-found p (pairsAt p t) (b .words) (b .links) fits t live (rank p cols₀ r h hp)
+                  (λ k v. omega (arith, hp .slots-are, hp .live-below k v)) words₁ links₁ live₁ (getD (b .cols) low′ 0) (λ x. p .covers x low′)
+                  (λ x a. column-covers h (matesAt p t) (b .cols) (hp .pairs .columns) x low′ a low-spare low-free)
+                  explored
+
+              pairs₁ : HoldsPairs p (pairsAt p t) cols₀ b₁
+              pairs₁ =
                   record {
-                    mates-length = second-search .mates-length;
-                    taken-length = second-search .taken-length;
-                    live-length = size;
-                    below = λ n k b. second-search .below n k (first-search .below n k b);
-                    unseen = λ n k b u. u;
-                    taken-are = second-search .taken-are;
-                    most = omega (arith, known .high-small);
-                    equal = λ p h b l.
-                        let is = found-worth h l (known .high-is) (known .high-small) (goal-same p h b l) goal-first low-is less in
-                        ap₂ (λ (x : ℕ) (f : ℕ → Bool). record { mates = arrayMates mates₂; weight = weight + x; treeDead = bit trees; spareLive = f })
-                        (gain-is h l (known .high-is) (known .high-small) (goal-same p h b l) goal-first low-is less)
-                        (member-put live live′ g more)
-                        ∙ ap (turned p t pr g)
-                        (second-search .equal p (h .rows-are) (first-search .below (p .trees) l b) l
-                        ∙ ap (λ (f : Mates). search p g t (record { mates = f; treeSeen = bit trees; spareSeen = λ s. not (member live s); met = false })) same)
-                        ∙ ap (λ (j : ℕ). turned p t pr j (search p j t (begun pr))) (sym is)
-                        ∙ sym (failed p h b l ∙ reached-on p t pr (stateOf mates₁ trees₁ live₁ false)
-                        (worth-on h l (known .high-is) (known .high-small) (goal-same p h b l) goal-first low-is less));
+                    few = hp .pairs .few;
+                    own = λ k l. explored .kept .partners k (omega (arith, fits .few)) ∙ hp .pairs .own k l;
+                    below = hp .pairs .below;
+                    spares = hp .pairs .spares;
+                    ranks = hp .pairs .ranks;
+                    places = hp .pairs .places;
+                    rows = λ x k a l. rw (explored .kept .rows x (omega (arith, fits .ranks))) (hp .pairs .rows x k a l);
+                    columns = hp .pairs .columns;
                   }
+
+              goal-model : goalOf p (matesAt p t) (exploration p t low′ live .seen) ≡ goal
+              goal-model =
+                  sym (found-goal
+                  ∙ goal-is h (matesAt p t) (b .cols) (hp .pairs .columns) (known .able .few-trees) (getD words₁ 64 0) (exploration p t low′ live .seen)
+                  (found .seen) low′ low-within (low-paired p cols₀ r h hp))
+
+              tried : built p (suc t) ≡ augmentBy p t (built p t) (exploration p t low′ live)
+              tried =
+                  built-next p t
+                  ∙ augment-tried p t (built p t) low′ (sym (cheapest p cols₀ r h hp))
+                  (worth-on h (known .able .rank) (known .high-is) (known .high-small) low′ (known .least-is) on)
+                  ∙ ap (λ (f : ℕ → Bool). augmentBy p t (built p t) (search p (pairsAt p t) (λ x. p .covers x low′) f t)) (sym (hp .live-are))
+
+              off-holds : high ≤ least₁ → HoldsProgress p (built p (suc t)) cols₀ slots low′ live₁ weight b₁
+              off-holds off =
+                  subst (λ (pr : Progress). HoldsProgress p pr cols₀ slots low′ live₁ weight b₁)
+                  (sym (tried ∙ tried-off p t (built p t) (exploration p t low′ live) goal goal-model
+                  (worth-off h (known .able .rank) (known .high-is) (known .high-small) goal least₁-is off)))
+                  record {
+                    slots-are = hp .slots-are;
+                    live-are = found .live;
+                    live-below = λ k v. hp .live-below k (search-closed p (pairsAt p t) (λ x. p .covers x low′) (bit live) t .falls k (rw (found .live) at v));
+                    weighs = hp .weighs;
+                    low-paired = low-paired p cols₀ r h hp;
+                    pairs = pairs₁;
+                  }
+
+          -- The exploration came to none that gains.
+          pub augmented-off : high ≤ least₁ → Out slots low′ live₁ weight b₁
+          augmented-off off =
+              record {
+                safe =
+                    record {
+                      sized = sized₁;
+                      few = omega (arith, safe .few);
+                      within = low-within;
+                      room = omega (arith, safe .room);
+                      clean = clean₁;
+                      placed = safe .placed;
+                    };
+                holds = λ p cols₀ r h hp. off-holds p cols₀ r h hp off;
+              }
+
+          -- It came to one.
+          module _ (gain : least₁ < high) where
+            goal-below : goal < spares
+            goal-below = goal-within spares cost ss goal high least₁ (known .high-small) least₁-is gain
+
+            pub pair-able : Pairing t goal slots (getD words₁ 64 0) (b .cols) words₁ links₁ (b .spare) (b .slot)
+            pair-able =
+                record {
+                  tree = omega (arith, known .able .rank, known .able .few-trees);
+                  goal-below = omega (arith, goal-below, known .able .few-spares);
+                  slot-below = omega (arith, safe .few, known .able .rank, known .able .few-trees);
+                  hit =
+                      rw found-goal
+                      (over-common low′ spares (getD words₁ 64 0) (b .cols) low-within (rw (← found-goal) goal-below) .0);
+                  cols-length = sized₁ .cols-length;
+                  words-length = sized₁ .words-length;
+                  links-length = sized₁ .links-length;
+                  spare-length = sized₁ .spare-length;
+                  slot-length = sized₁ .slot-length;
+                  partners = sized₁ .partners;
+                }
+
+            module _
+                {cols′ words′ links′ spare′ slot′ : List ℕ}
+                (put-in : PairPut t goal slots (getD words₁ 64 0) (b .cols) words₁ links₁ (b .spare) (b .slot) cols′ words′ links′ spare′ slot′)
+                (live′ : ℕ)
+                (more : (j : ℕ) → bit live′ j ≡ (bit live j || eqb slots j))
+              where
+                abbrev b′ : Tables
+                b′ = tables cols′ words′ links′ spare′ slot′
+
+                safe′ : Safe (suc t) spares (slots + 1) low′ (weight + (high - least₁)) b′
+                safe′ =
+                    record {
+                      sized =
+                          record {
+                            cols-length = put-in .cols-length;
+                            words-length = put-in .words-are .size;
+                            links-length = put-in .links-are .size;
+                            spare-length = put-in .spare-length;
+                            slot-length = put-in .slot-length;
+                            partners = put-in .links-are .partners;
+                          };
+                      few = omega (arith, safe .few);
+                      within = low-within;
+                      room = omega (arith, safe .room, known .high-small);
+                      clean =
+                          λ x k a l. put-in .words-are .rows x k a ∙ rw (clean₁ x k a (omega arith), ne-eqb slots k (λ e. omega arith));
+                      placed = λ s l e. elim (ℕ-discrete s goal) [
+                        | yes d ↦
+                            let at : getD slot′ s 0 ≡ slots =
+                            rw (put-in .slot-is, d) (getD-set-same (b .slot) goal slots 0 (omega (arith, pair-able .goal-below, sized₁ .slot-length))) in
+                            omega arith
+                        | no d ↦
+                            let at : getD slot′ s 0 ≡ getD (b .slot) s 0 = rw (put-in .slot-is) (getD-set-other (b .slot) goal s slots 0 d) in
+                            let column : getD (b .cols) s 0 ≡ 0 = sym (getD-set-other (b .cols) goal s 0 0 d) ∙ rw (put-in .cols-are) at e in
+                            omega (arith, safe .placed s l column)
+                      ];
+                    }
+
+                module _
+                    (p : Problem)
+                    (cols₀ : List ℕ)
+                    (r : Ranked p)
+                    (h : Holds p trees spares cost ts ss cols₀)
+                    (hp : HoldsProgress p (built p t) cols₀ slots low live weight b)
+                  where
+                    abbrev n : ℕ
+                    n = pairsAt p t .slots
+
+                    goal-spare : goal < p .spares
+                    goal-spare = rw (h .spares-are) goal-below
+
+                    both : (ltb (hitOf p (exploration p t low′ live .seen) goal) (p .trees) && eqb (matesAt p t goal) 0) ≡ true
+                    both =
+                        let is = goal-model p cols₀ r h hp in
+                        rw is at
+                        (first-is (p .spares) (λ s. ltb (hitOf p (exploration p t low′ live .seen) s) (p .trees) && eqb (matesAt p t s) 0) .hit
+                        (rw is goal-spare))
+
+                    goal-free : matesAt p t goal ≡ 0
+                    goal-free = eqb-true _ 0 (and-second (ltb (hitOf p (exploration p t low′ live .seen) goal) (p .trees)) _ both)
+
+                    abbrev hit : ℕ
+                    hit = hitOf p (exploration p t low′ live .seen) goal
+
+                    hit-below : hit < p .trees
+                    hit-below = ltb-true hit (p .trees) (and-first _ (eqb (matesAt p t goal) 0) both)
+
+                    hit-seen : exploration p t low′ live .seen hit ≡ true
+                    hit-seen =
+                        and-first (exploration p t low′ live .seen hit) (p .covers hit goal)
+                        (first-is (p .trees) (λ x. exploration p t low′ live .seen x && p .covers x goal) .hit hit-below)
+
+                    hit-same : hitIn (getD (b .cols) goal 0) (getD words₁ 64 0) ≡ hit
+                    hit-same =
+                        goal-hit-is h (matesAt p t) (b .cols) (hp .pairs .columns) (known .able .few-trees) (getD words₁ 64 0) (exploration p t low′ live .seen)
+                        (found p cols₀ r h hp .seen) goal goal-spare goal-free hit-below
+
+                    abbrev treeOf′ : ℕ → ℕ
+                    treeOf′ = turn (exploration p t low′ live) t n hit n (pairsAt p t .treeOf)
+
+                    -- The way back in the arrays is the model's.
+                    own′ : (k : ℕ) → k < suc n → getD links′ k 0 ≡ treeOf′ k
+                    own′ k l =
+                        put-in .links-are .own k (omega (arith, fits p cols₀ r h hp .few))
+                        ∙ rw (hit-same, ← hp .slots-are)
+                        (ap (λ (f : ℕ → ℕ). f k)
+                        (turn-same (ways links₁) (stateOf words₁ links₁ live₁) (λ _. refl) (λ _. refl) t n hit n (λ j. getD links₁ j 0)
+                        ∙ found p cols₀ r h hp .turns n hit n (λ j. getD links₁ j 0) hit-seen))
+                        ∙ turn-near (exploration p t low′ live) t n hit n (λ j. getD links₁ j 0) (pairsAt p t .treeOf) k near
+                      where
+                        near : put (λ j. getD links₁ j 0) n hit k ≡ put (pairsAt p t .treeOf) n hit k
+                        near = elim (ℕ-discrete k n) [
+                          | yes e ↦ rw e (put-same (λ j. getD links₁ j 0) n hit ∙ sym (put-same (pairsAt p t .treeOf) n hit))
+                          | no d ↦
+                              put-other (λ j. getD links₁ j 0) n hit k d
+                              ∙ pairs₁ p cols₀ r h hp .own k (omega arith)
+                              ∙ sym (put-other (pairsAt p t .treeOf) n hit k d)
+                        ]
+
+                    turned-on : built p (suc t) ≡ turned p t (built p t) goal (exploration p t low′ live)
+                    turned-on =
+                        tried p cols₀ r h hp
+                        ∙ tried-on p t (built p t) (exploration p t low′ live) goal (goal-model p cols₀ r h hp)
+                        (worth-on h (known .able .rank) (known .high-is) (known .high-small) goal least₁-is gain)
+
+                    abbrev q′ : Slots
+                    q′ = turned p t (built p t) goal (exploration p t low′ live) .pairs
+
+                    below′ : (k : ℕ) → k < suc n → treeOf′ k < p .trees
+                    below′ =
+                        slot-below p q′
+                        (subst (λ (pr : Progress). HeldSlots p (pr .pairs)) turned-on (built-held p r (suc t) (rank p cols₀ r h hp)))
+                        (subst (λ (pr : Progress). Valid p (matesIn (pr .pairs))) turned-on (built-valid p r (suc t) (rank p cols₀ r h hp)))
+
+                    on-holds : HoldsProgress p (built p (suc t)) cols₀ (slots + 1) low′ live′ (weight + (high - least₁)) b′
+                    on-holds =
+                        subst (λ (pr : Progress). HoldsProgress p pr cols₀ (slots + 1) low′ live′ (weight + (high - least₁)) b′) (sym turned-on)
+                        record {
+                          slots-are = omega (arith, hp .slots-are);
+                          live-are = added (bit live) (bit live′) slots more ∙ rw (hp .live-are, hp .slots-are);
+                          live-below = λ k v. elim (or-either (bit live k) (eqb slots k) (sym (more k) ∙ v)) [
+                            | inl e ↦ omega (arith, hp .live-below k e)
+                            | inr e ↦ omega (arith, eqb-true slots k e)
+                          ];
+                          weighs =
+                              rw (hp .weighs, gain-is h (known .able .rank) (known .high-is) (known .high-small) goal least₁-is gain);
+                          low-paired = λ s a l. mates-more s (low-paired p cols₀ r h hp s a l);
+                          pairs = one-more;
+                        }
+                      where
+                        held : HeldSlots p (pairsAt p t)
+                        held = built-held p r t (omega (arith, rank p cols₀ r h hp))
+
+                        clean₂ : Clean n words₁
+                        clean₂ = rw (hp .slots-are) clean₁
+
+                        few-spares : p .spares ≤ 256
+                        few-spares = omega (arith, h .spares-are, known .able .few-spares)
+
+                        room : n < p .trees
+                        room = omega (arith, hp .slots-are, safe .few, rank p cols₀ r h hp)
+
+                        mates-more : (s : ℕ) → matesAt p t s ≢ 0 → matesIn q′ s ≢ 0
+                        mates-more =
+                            mates-kept sized₁ (pairs₁ p cols₀ r h hp) held clean₂ (fits p cols₀ r h hp .ranks) few-spares room goal goal-spare goal-free treeOf′
+
+                        one-more : HoldsPairs p q′ cols₀ b′
+                        one-more =
+                            pairs-put sized₁ (pairs₁ p cols₀ r h hp) held clean₂ (fits p cols₀ r h hp .ranks) few-spares room goal goal-spare goal-free treeOf′
+                            (rw (← hp .slots-are) at put-in)
+                            (λ x a. column-covers h (matesAt p t) (b .cols) (hp .pairs .columns) x goal a goal-spare goal-free)
+                            own′ below′
+
+                -- The goal has a slot, and tree rank t is matched.
+                pub augmented-on : Out (slots + 1) low′ live′ (weight + (high - least₁)) b′
+                augmented-on = record { safe = safe′; holds = on-holds }

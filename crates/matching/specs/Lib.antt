@@ -1,5 +1,7 @@
--- The matching in arrays: what the code's state says in the words of the model, and the laws that its steps rest on.
-pub mod Progress
-pub mod SeekSteps
+-- The matching in progress in arrays: what it is in the words of the model, what the code promises, and the laws of its steps.
+pub mod Tables
+pub mod Build
+pub mod FindLaws
+pub mod PairSteps
 pub mod AugmentSteps
 pub mod BuildSteps

@@ -1,13 +1,15 @@
-// The matching, built one tree rank at a time, and its running weight (specs/Progress.antt; the model is in optimum's
+// The matching, built one tree rank at a time, and its running weight (specs/Tables.antt; the model is in optimum's
 // specs/Search.antt).
 use ids::Edge;
+use ids::Slot;
 use ids::SpareRank;
 use ids::TreeRank;
 ghost use mathlib.Core.Path.{_≡_};
 ghost use Prim.Native.Nat.{_<_, _≤_};
 ghost use lib.ListN.{getD};
-ghost use Rattle.matching.specs.Progress.{Seekable, Sought, Augmentable, Augmented, Buildable, Built, Edges, goalCost};
 ghost use Rattle.graph.specs.Rank.{costAt};
+ghost use Rattle.matching.specs.Tables.{Edges, tables};
+ghost use Rattle.matching.specs.Build.{goalCost, Augmentable, Augmented, Buildable, Built};
 
 // The cost of place `k` of a list of ranks.
 pub fn cost_at(k: u32, cost: &[u32; 256], ranks: &[u32; 256]) -> u32
@@ -29,109 +31,121 @@ fn goal_cost(goal: SpareRank, spares: u32, cost: &[u32; 256], ss: &[u32; 256]) -
     cost_at(goal.0, cost, ss)
 }
 
-// Matches tree rank `t` along an alternating path to the goal, if one leads there. Was the goal met?
-fn seek(
-    t: TreeRank,
-    goal: SpareRank,
-    rows: &[u64; 256],
-    mates: &mut [u32; 256],
-    taken: &mut [u64; 4],
-    tree_seen: &mut u64,
-    live: &mut [u64; 4],
-) -> bool
-    requires { ⌜ Seekable (t .0) (goal .0) (now mates) (now taken) (now «tree_seen») (now live) ⌝ }
-    ensures { λ r. ⌜ Sought (t .0) (goal .0) (now (rows .entry)) (now (mates .entry)) (now («tree_seen» .entry)) (now (live .entry)) (now (mates .exit))
-        (now (taken .exit)) (now («tree_seen» .exit)) (now (live .exit)) r ⌝ }
-{
-    if search::try_tree(t, goal, rows, mates, tree_seen, live) {
-        sets::insert(taken, goal.0);
-        return true;
-    }
-    false
+// How many pairs there are, the lowest spare rank that may be in none, the slots that no failed exploration has visited, and the
+// weight of the pairs.
+pub struct Progress {
+    pub slots: u32,
+    pub low: u32,
+    pub live: u64,
+    pub weight: u64,
 }
 
-// Matches tree rank `t`, if the cheapest unmatched spare rank that alternating paths lead to costs less. The cheapest of
-// all is tried first; if paths lead to none that gains, what the search has seen is given up for good. Hands back the weight
-// of the matching: a path corrects it by what `t` costs above its goal.
+// Matches tree rank `t`, if the cheapest spare rank in no pair that alternating paths lead to costs less. An exploration ends under
+// the cheapest of all; if it comes to none that gains, the slots that it has visited are given up for good. A path corrects the
+// weight by what `t` costs above its goal.
 fn augment(
     t: TreeRank,
-    weight: u64,
+    at: Progress,
+    trees: u32,
     spares: u32,
     cost: &[u32; 256],
     ts: &[u32; 256],
     ss: &[u32; 256],
-    rows: &[u64; 256],
-    mates: &mut [u32; 256],
-    taken: &mut [u64; 4],
-    tree_dead: &mut u64,
-    live: &mut [u64; 4],
-) -> u64
-    requires { ⌜ Augmentable (t .0) weight spares (now ts) (now ss) (now mates) (now taken) (now «tree_dead») (now live) ⌝ }
-    ensures { λ r. ⌜ Augmented (t .0) weight spares (now (cost .entry)) (now (ts .entry)) (now (ss .entry)) (now (rows .entry)) (now (mates .entry))
-        (now («tree_dead» .entry)) (now (live .entry)) (now (mates .exit)) (now (taken .exit)) (now («tree_dead» .exit)) (now (live .exit)) r ⌝ }
+    cols: &mut [u64; 256],
+    words: &mut [u64; 66],
+    links: &mut [u32; 128],
+    spare: &mut [u32; 128],
+    slot: &mut [u32; 256],
+) -> Progress
+    requires { ⌜ Augmentable (t .0) (at .slots) (at .low) (at .weight) trees spares (now ts) (now ss)
+        (tables (now cols) (now words) (now links) (now spare) (now slot)) ⌝ }
+    ensures { λ r. ⌜ Augmented (t .0) (at .slots) (at .low) (at .live) (at .weight) trees spares (now (cost .entry)) (now (ts .entry)) (now (ss .entry))
+        (tables (now (cols .entry)) (now (words .entry)) (now (links .entry)) (now (spare .entry)) (now (slot .entry)))
+        (r .slots) (r .low) (r .live) (r .weight)
+        (tables (now (cols .exit)) (now (words .exit)) (now (links .exit)) (now (spare .exit)) (now (slot .exit))) ⌝ }
 {
-    let best = sets::lowest_free(taken);
+    let n = at.slots;
+    let low = goals::first_over(at.low, spares, bits::below(trees), cols);
     let high = cost_at(t.0, cost, ts);
-    let least = goal_cost(SpareRank(best), spares, cost, ss);
+    if high <= goal_cost(SpareRank(low), spares, cost, ss) {
+        return Progress {
+            slots: n,
+            low: low,
+            live: at.live,
+            weight: at.weight,
+        };
+    }
+    let live = search::explore(t, at.live, cols[low as usize], words, links);
+    let seen = words[64];
+    let goal = goals::goal_over(low, spares, seen, cols);
+    let least = goal_cost(SpareRank(goal), spares, cost, ss);
     if high <= least {
-        return weight;
+        return Progress {
+            slots: n,
+            low: low,
+            live: live,
+            weight: at.weight,
+        };
     }
-    let mut seen = *tree_dead;
-    let mut left = *live;
-    if seek(t, SpareRank(best), rows, mates, taken, &mut seen, &mut left) {
-        sets::insert(live, best);
-        return weight + (high - least) as u64;
+    slots::pair(
+        t,
+        SpareRank(goal),
+        Slot(n),
+        seen,
+        cols,
+        words,
+        links,
+        spare,
+        slot,
+    );
+    Progress {
+        slots: n + 1,
+        low: low,
+        live: bits::with(at.live, n),
+        weight: at.weight + (high - least) as u64,
     }
-    let new_trees = bits::less(seen, *tree_dead);
-    let goal = set_rows::lowest_covering(rows, new_trees, taken);
-    let low = goal_cost(SpareRank(goal), spares, cost, ss);
-    if low < high {
-        seen = *tree_dead;
-        left = *live;
-        seek(t, SpareRank(goal), rows, mates, taken, &mut seen, &mut left);
-        sets::insert(live, goal);
-        return weight + (high - low) as u64;
-    }
-    *tree_dead = seen;
-    *live = left;
-    weight
 }
 
-// Builds the matching in `mates`, which is empty, and the set of its spare ranks: every tree rank in turn. Hands back its
-// weight, kept as chains are found.
+// Builds the matching from nothing: every tree rank in turn.
 pub fn build(
     trees: u32,
     spares: u32,
     cost: &[u32; 256],
     ts: &[u32; 256],
     ss: &[u32; 256],
-    rows: &[u64; 256],
-    mates: &mut [u32; 256],
-    taken: &mut [u64; 4],
-) -> u64
-    requires { ⌜ Buildable trees spares (now ts) (now ss) (now mates) (now taken) ⌝ }
-    ensures { λ r. ⌜ Built trees spares (now (cost .entry)) (now (ts .entry)) (now (ss .entry)) (now (rows .entry)) (now (mates .exit))
-        (now (taken .exit)) r ⌝ }
+    cols: &mut [u64; 256],
+    words: &mut [u64; 66],
+    links: &mut [u32; 128],
+    spare: &mut [u32; 128],
+    slot: &mut [u32; 256],
+) -> Progress
+    requires { ⌜ Buildable trees spares (now ts) (now ss) (tables (now cols) (now words) (now links) (now spare) (now slot)) ⌝ }
+    ensures { λ r. ⌜ Built trees spares (now (cost .entry)) (now (ts .entry)) (now (ss .entry)) (now (cols .entry)) (r .slots) (r .low) (r .live) (r .weight)
+        (tables (now (cols .exit)) (now (words .exit)) (now (links .exit)) (now (spare .exit)) (now (slot .exit))) ⌝ }
 {
-    let mut tree_dead = 0u64;
-    let mut live = [0u64; 4];
-    let mut weight = 0u64;
+    let mut at = Progress {
+        slots: 0,
+        low: 0,
+        live: 0,
+        weight: 0,
+    };
     let mut t = 0;
     while t < trees {
-        weight = augment(
+        at = augment(
             TreeRank(t),
-            weight,
+            at,
+            trees,
             spares,
             cost,
             ts,
             ss,
-            rows,
-            mates,
-            taken,
-            &mut tree_dead,
-            &mut live,
+            cols,
+            words,
+            links,
+            spare,
+            slot,
         );
         t += 1;
     }
-    weight
+    at
 }

@@ -1,4 +1,4 @@
--- One tree rank more keeps the invariant: the potentials are raised on what its search has visited, and it is matched
+-- One tree rank more keeps the invariant: the potentials are raised on what its exploration has visited, and it is matched
 -- along an alternating path or stays unmatched. Assumes nothing.
 use Prim.Native.Nat.{ℕ, suc, _+_, _≤_, _<_, max}
 use native.Mathlib.Decide.{ℕ-discrete, decLt}
@@ -7,28 +7,28 @@ use mathlib.Core.Path.{_≡_, refl, sym, _∙_}
 use mathlib.Core.Logic.{_≢_, _⊎_, inl, inr}
 use mathlib.Core.Bool.{Bool, true, false, cond, not, _&&_}
 use lib.Dec.{eqb, ltb}
-use borrow.Author.Tests.{eq-eqb, ne-eqb, eqb-true, not-true, ltb-true, ltb-false, lt-ltb}
-use Rattle.loops.specs.Loop.{first}
+use borrow.Author.Tests.{eq-eqb, eqb-true, ltb-true, ltb-false, lt-ltb}
+use Rattle.loops.specs.Loop.{put}
 use Rattle.loops.specs.TestLaws.{truth, clash, and-first, and-second, and-both, and-miss, choose-both}
 use Rattle.loops.specs.PutLaws.{put-same, put-other}
-use Rattle.loops.specs.FirstLaws.{First, first-is}
-use Rattle.optimum.specs.Search.{Problem, Mates, Search, search, Progress, begun, coversSome}
-use Rattle.optimum.specs.Search.{newTrees, goalOf, cheapestOf, worth, turned, givenUp, augmentReached, augment}
+use Rattle.loops.specs.FirstLaws.{First, first-is, some-of}
+use Rattle.optimum.specs.Search.{Problem, Mates, Slots, matesBelow, matesIn, spareSlot, Search, never, begun, search}
+use Rattle.optimum.specs.Search.{turn, Progress, cheapestOf, hitOf, goalOf, worth, turned, givenUp, augment}
 use Rattle.optimum.specs.Slackness.{Ranked, rankWeight}
-use Rattle.optimum.specs.SearchLaws.{AugmentingPath, stop, via, Kept, TreeClosed, SpareClosed}
-use Rattle.optimum.specs.SearchLaws.{Explored, Always, search-fails, search-turns, search-explores, search-meets}
-use Rattle.optimum.specs.Matched.{Mate, mate, free, pair}
-use Rattle.optimum.specs.Invariant.{Pairs, Done, path-turns}
+use Rattle.optimum.specs.SlotLaws.{Distinct, HeldSlots, held-more, slots-apart, slot-mate, mates-view, mates-none, mates-more, slot-found, slot-none}
+use Rattle.optimum.specs.SearchLaws.{AugmentingPath, stop, Closed, search-closed, Way, here, on, SoundSearch}
+use Rattle.optimum.specs.SearchLaws.{search-sound, root-seen, along, off-past, turn-along, way-path}
+use Rattle.optimum.specs.Matched.{mate, free, pair}
+use Rattle.optimum.specs.Invariant.{Pairs, pairs-valid, Done, path-turns}
 
--- Tree ranks below n are done. The running weight is that of the matching, added up afresh. What failed searches have
--- visited is too dear for every tree rank to come.
+-- Tree ranks below n are done. Each slot has a rank of its own; what failed explorations have visited is too dear for every
+-- tree rank to come.
 pub record Invariant (p : Problem) (n : ℕ) (pr : Progress) (d : ℕ → ℕ) : Type 0 where
-  pub pairs : Pairs p n (pr .mates) d
-  pub weighs : pr .weight ≡ rankWeight p (pr .mates)
-  pub done : (t : ℕ) → t < n → Done p (pr .mates) d t
-  pub dead : (x : ℕ) → pr .treeDead x ≡ true → x < n
-  pub high-spare : (s t : ℕ) → s < p .spares → pr .spareLive s ≡ false → pr .mates s ≢ 0 → n ≤ t → t < p .trees → p .treeCost t ≤ d s
-  pub high-tree : (x s t : ℕ) → s < p .spares → pr .treeDead x ≡ true → p .covers x s ≡ true → n ≤ t → t < p .trees → p .treeCost t ≤ d s
+  pub pairs : Pairs p n (matesIn (pr .pairs)) d
+  pub weighs : pr .weight ≡ rankWeight p (matesIn (pr .pairs))
+  pub done : (t : ℕ) → t < n → Done p (matesIn (pr .pairs)) d t
+  pub held : HeldSlots p (pr .pairs)
+  pub high : (k t : ℕ) → k < pr .pairs .slots → pr .live k ≡ false → n ≤ t → t < p .trees → p .treeCost t ≤ d (pr .pairs .spareOf k)
 
 -- The potentials d, raised to v on a set.
 abbrev raised : (ℕ → Bool) → ℕ → (ℕ → ℕ) → ℕ → ℕ
@@ -45,11 +45,9 @@ raised-is : (v old : ℕ) (b : Bool) → Raised v old (cond b (max old v) old) b
 raised-is v old true = record { least = omega arith; most = omega arith; in-set = λ _. omega arith; outside = λ q. clash refl q }
 raised-is v old false = record { least = omega arith; most = omega arith; in-set = λ q. clash q refl; outside = λ _. refl }
 
--- A path turns no unmatched rank but the goal.
-path-free : (p : Problem) (goal : ℕ) (base : Mates) (s : ℕ) → s ≢ goal → {m m′ : Mates} {t : ℕ} → AugmentingPath p goal base m t m′ → m s ≡ 0 → m′ s ≡ 0
-path-free p goal base s n (stop {m = m} {t = t} l c e) f = put-other m goal (suc t) s n ∙ f
-path-free p goal base s n (via {m = m} {t = t} {s = x} l c b e π) f =
-    path-free p goal base s n π (put-other m x (suc t) s (λ q. omega (arith, e, (rw q at f))) ∙ f)
+-- The non-tree rank has a slot that is not live.
+abbrev gone : Slots → (ℕ → Bool) → ℕ → Bool
+gone q live s = ltb (spareSlot q s) (q .slots) && not (live (spareSlot q s))
 
 module _
     (p : Problem)
@@ -60,74 +58,87 @@ module _
     (d : ℕ → ℕ)
     (inv : Invariant p t pr d)
   where
-    -- A search from tree rank t visits no tree rank past it.
-    abbrev Upto : ℕ → Type 0
-    Upto x = x < suc t
+    abbrev q : Slots
+    q = pr .pairs
 
-    kept : Kept p (begun pr) Upto Always
-    kept = record { to-spare = λ x s k o c f. tt; to-mate = λ s x k o e f. omega (arith, inv .pairs .below s x k e) }
+    abbrev mates : Mates
+    mates = matesIn (pr .pairs)
 
-    -- The potentials are raised to v on the matched ranks that a search which failed has visited.
+    tree-below : (k : ℕ) → k < q .slots → q .treeOf k < t
+    tree-below k a = inv .pairs .below (q .spareOf k) (q .treeOf k) (inv .held .ranks k a) (slot-mate p q (inv .held) k a)
+
+    apart : Distinct (q .slots) (q .treeOf)
+    apart = slots-apart p q (inv .held) (pairs-valid (inv .pairs) (omega arith))
+
+    away : (k : ℕ) → k < q .slots → q .treeOf k ≢ t
+    away k a e = omega (arith, tree-below k a)
+
+    no-slot : (s : ℕ) → mates s ≡ 0 → (k : ℕ) → k < q .slots → q .spareOf k ≢ s
+    no-slot s f k i e = omega (arith, f, rw e at (slot-mate p q (inv .held) k i))
+
+    -- Tree rank x is t, or that of a slot that the exploration has visited.
+    abbrev Found : Search → ℕ → Type 0
+    Found st x = (x ≡ t) ⊎ ((k : ℕ) × (k < q .slots) × (pr .live k ≡ true) × (st .live k ≡ false) × (q .treeOf k ≡ x))
+
+    -- An unmatched rank over such a tree rank costs at least v.
+    abbrev Cheap : Search → ℕ → Type 0
+    Cheap st v = (x s : ℕ) → s < p .spares → Found st x → p .covers x s ≡ true → mates s ≡ 0 → v ≤ p .spareCost s
+
+    -- The potentials are raised to v on the slots that an exploration has visited.
     module _
-        (g : ℕ)
-        (all : Search)
-        (explored : Explored p g (pr .mates) Upto Always (begun pr) t all)
+        (st : Search)
+        (closed : Closed p q t (begun (pr .live) t) st)
         (v : ℕ)
         (low : v ≤ p .treeCost t)
-        (cheap : (x s : ℕ) → s < p .spares → newTrees pr all x ≡ true → p .covers x s ≡ true → pr .mates s ≡ 0 → v ≤ p .spareCost s)
+        (cheap : Cheap st v)
       where
         new : ℕ → ℕ
-        new = raised (λ s. all .spareSeen s && not (eqb (pr .mates s) 0)) v d
+        new = raised (gone q (st .live)) v d
 
-        raised-at : (s : ℕ) → Raised v (d s) (new s) (all .spareSeen s && not (eqb (pr .mates s) 0))
+        raised-at : (s : ℕ) → Raised v (d s) (new s) (gone q (st .live) s)
         unfolding new
-        raised-at s = raised-is v (d s) (all .spareSeen s && not (eqb (pr .mates s) 0))
+        raised-at s = raised-is v (d s) (gone q (st .live) s)
 
-        raised-seen : (s : ℕ) → all .spareSeen s ≡ true → pr .mates s ≢ 0 → v ≤ new s
-        raised-seen s q m = raised-at s .in-set (rw (q, ne-eqb (pr .mates s) 0 m))
+        gone-slot : (k : ℕ) → k < q .slots → gone q (st .live) (q .spareOf k) ≡ not (st .live k)
+        gone-slot k a = rw (slot-found (q .slots) (q .spareOf) (inv .held .distinct) k a, lt-ltb k (q .slots) a)
 
-        raised-free : (s : ℕ) → s < p .spares → pr .mates s ≡ 0 → new s ≡ p .spareCost s
-        raised-free s k e = raised-at s .outside (none (all .spareSeen s)) ∙ inv .pairs .free s k e
-          where
-            none : (b : Bool) → (b && not (eqb (pr .mates s) 0)) ≡ false
-            none true = rw e
-            none false = refl
+        raised-seen : (k : ℕ) → k < q .slots → st .live k ≡ false → v ≤ new (q .spareOf k)
+        raised-seen k a h = raised-at (q .spareOf k) .in-set (rw (gone-slot k a, h))
 
-        -- What covers a tree rank that has been visited costs at least v.
-        seen-high : (x s : ℕ) → s < p .spares → all .treeSeen x ≡ true → p .covers x s ≡ true → v ≤ new s
-        seen-high x s k q c = elim (truth (pr .treeDead x)) [
-          | inl h ↦ omega (arith, inv .high-tree x s t k h c (omega arith) l, raised-at s .least)
-          | inr h ↦ at-tree h (explored .grown .new-tree x q)
+        raised-free : (s : ℕ) → s < p .spares → mates s ≡ 0 → new s ≡ p .spareCost s
+        raised-free s k e = raised-at s .outside (rw (slot-none (q .slots) (q .spareOf) s (no-slot s e))) ∙ inv .pairs .free s k e
+
+        -- What covers a tree rank that has been found costs at least v.
+        found-high : (x s : ℕ) → s < p .spares → Found st x → p .covers x s ≡ true → v ≤ new s
+        found-high x s a f c = elim (mate mates s) [
+          | free e ↦ omega (arith, cheap x s a f c e, raised-free s a e)
+          | pair y e ↦ at-slot (mates-view (q .slots) (q .spareOf) (q .treeOf) s y e)
         ]
           where
-            at-mate : pr .treeDead x ≡ false → TreeClosed p g Upto (all .spareSeen) x → Mate (pr .mates) s → v ≤ new s
-            at-mate h w (free e) = omega (arith, cheap x s k (and-both (all .treeSeen x) (not (pr .treeDead x)) q (rw h)) c e, raised-free s k e)
-            at-mate h w (pair y e) = raised-seen s (w .tried s k c) (λ z. omega (arith, e, z))
+            dead : (k : ℕ) → k < q .slots → p .covers x (q .spareOf k) ≡ true → Found st x → st .live k ≡ false
+            dead k b h (inl e) = closed .tried k b (rw e at h)
+            dead k b h (inr (j, i, a, g, e)) = closed .followed j k i b a g (rw e h)
 
-            at-tree : pr .treeDead x ≡ false → (pr .treeDead x ≡ true) ⊎ TreeClosed p g Upto (all .spareSeen) x → v ≤ new s
-            at-tree h (inl r) = clash r h
-            at-tree h (inr w) = at-mate h w (mate (pr .mates) s)
+            at-slot : {y : ℕ} → (k : ℕ) × (k < q .slots) × (q .spareOf k ≡ s) × (q .treeOf k ≡ y) → v ≤ new s
+            at-slot (k, b, e, _) = rw e at (raised-seen k b (dead k b (rw e c) f))
 
-        raised-feasible : (s s′ x : ℕ) → s < p .spares → s′ < p .spares → pr .mates s ≡ suc x → p .covers x s′ ≡ true → new s ≤ new s′
-        raised-feasible s s′ x k k′ e c =
-            elim (truth (all .spareSeen s)) [
-              | inl q ↦ at-spare (explored .grown .new-spare s q)
-              | inr q ↦ lifted (inl (raised-at s .outside (rw q)))
-            ]
+        raised-feasible : (s s′ x : ℕ) → s < p .spares → s′ < p .spares → mates s ≡ suc x → p .covers x s′ ≡ true → new s ≤ new s′
+        raised-feasible s s′ x a a′ e c = at-slot (mates-view (q .slots) (q .spareOf) (q .treeOf) s x e)
           where
-            some : pr .mates s ≢ 0
-            some z = omega (arith, e, z)
-
             lifted : (new s ≡ d s) ⊎ (v ≤ new s′) → new s ≤ new s′
-            lifted (inl q) = omega (arith, inv .pairs .feasible s s′ x k k′ e c, raised-at s′ .least)
-            lifted (inr q) = omega (arith, inv .pairs .feasible s s′ x k k′ e c, raised-at s′ .least, raised-at s .most)
+            lifted (inl h) = omega (arith, inv .pairs .feasible s s′ x a a′ e c, raised-at s′ .least)
+            lifted (inr h) = omega (arith, inv .pairs .feasible s s′ x a a′ e c, raised-at s′ .least, raised-at s .most)
 
-            at-spare : (not (pr .spareLive s) ≡ true) ⊎ SpareClosed p (pr .mates) Always (all .treeSeen) s → new s ≤ new s′
-            at-spare (inl q) =
-                lifted (inl (omega (arith, raised-at s .least, raised-at s .most, inv .high-spare s t k (not-true _ q) some (omega arith) l)))
-            at-spare (inr q) = lifted (inr (seen-high x s′ k′ (q .followed x e) c))
+            at-slot : (k : ℕ) × (k < q .slots) × (q .spareOf k ≡ s) × (q .treeOf k ≡ x) → new s ≤ new s′
+            at-slot (k, b, r, g) = elim (truth (st .live k)) [
+              | inl h ↦ lifted (inl (raised-at s .outside (rw (← r, gone-slot k b, h))))
+              | inr h ↦ elim (truth (pr .live k)) [
+                | inl i ↦ lifted (inr (found-high x s′ a′ (inr (k, b, i, h, g)) c))
+                | inr i ↦ lifted (inl (omega (arith, raised-at s .least, raised-at s .most, rw r at (inv .high k t b i (omega arith) l))))
+              ]
+            ]
 
-        raised-pairs : Pairs p (suc t) (pr .mates) new
+        raised-pairs : Pairs p (suc t) mates new
         raised-pairs =
             record {
               below = λ s x k e. omega (arith, inv .pairs .below s x k e);
@@ -142,27 +153,24 @@ module _
                   omega (arith, inv .pairs .under s x k e, raised-at s .most, ranked .fall x t (omega (arith, inv .pairs .below s x k e)) l);
             }
 
-        raised-done : (x : ℕ) → x < suc t → (x ≡ t) ⊎ Done p (pr .mates) new x
-        raised-done x k = elim (ℕ-discrete x t) [ yes q ↦ inl q | no q ↦ inr (stays (inv .done x (omega arith))) ]
+        raised-done : (x : ℕ) → x < suc t → (x ≡ t) ⊎ Done p mates new x
+        raised-done x k = elim (ℕ-discrete x t) [ yes e ↦ inl e | no e ↦ inr (stays (inv .done x (omega arith))) ]
           where
-            stays : Done p (pr .mates) d x → Done p (pr .mates) new x
+            stays : Done p mates d x → Done p mates new x
             stays (inl m) = inl m
             stays (inr f) = inr (λ s j c. omega (arith, f s j c, raised-at s .least))
 
         -- What covers tree rank t has been raised.
         raised-covers : (s : ℕ) → s < p .spares → p .covers t s ≡ true → v ≤ new s
-        raised-covers s k c = seen-high t s k (explored .seen) c
+        raised-covers s k c = found-high t s k (inl refl) c
 
         -- Tree rank t keeps its cost.
-        settled : v ≡ p .treeCost t → (x : ℕ) → (x ≡ t) ⊎ Done p (pr .mates) new x → Done p (pr .mates) new x
-        settled e x (inl q) = inr (rw (q, ← e) raised-covers)
-        settled e x (inr q) = q
+        settled : v ≡ p .treeCost t → (x : ℕ) → (x ≡ t) ⊎ Done p mates new x → Done p mates new x
+        settled e x (inl h) = inr (rw (h, ← e) raised-covers)
+        settled e x (inr h) = h
 
-        still-high-spare : (s x : ℕ) → s < p .spares → pr .spareLive s ≡ false → pr .mates s ≢ 0 → suc t ≤ x → x < p .trees → p .treeCost x ≤ new s
-        still-high-spare s x k q m j b = omega (arith, inv .high-spare s x k q m (omega arith) b, raised-at s .least)
-
-        still-high-tree : (y s x : ℕ) → s < p .spares → pr .treeDead y ≡ true → p .covers y s ≡ true → suc t ≤ x → x < p .trees → p .treeCost x ≤ new s
-        still-high-tree y s x k q c j b = omega (arith, inv .high-tree y s x k q c (omega arith) b, raised-at s .least)
+        still-high : (k x : ℕ) → k < q .slots → pr .live k ≡ false → suc t ≤ x → x < p .trees → p .treeCost x ≤ new (q .spareOf k)
+        still-high k x a h j b = omega (arith, inv .high k x a h (omega arith) b, raised-at (q .spareOf k) .least)
 
         -- Nothing is matched and nothing is given up.
         stay-keeps : v ≡ p .treeCost t → Invariant p (suc t) pr new
@@ -171,217 +179,211 @@ module _
               pairs = raised-pairs;
               weighs = inv .weighs;
               done = λ x k. settled e x (raised-done x k);
-              dead = λ x q. omega (arith, inv .dead x q);
-              high-spare = still-high-spare;
-              high-tree = still-high-tree;
+              held = inv .held;
+              high = still-high;
             }
 
-        -- The search has failed: what it has visited is given up.
-        fail-keeps :
-            v ≡ p .treeCost t →
-            Invariant p (suc t) (givenUp pr all) new
+        -- Nothing found gains: what has been visited is given up.
+        fail-keeps : v ≡ p .treeCost t → Invariant p (suc t) (givenUp pr st) new
         fail-keeps e =
             record {
               pairs = raised-pairs;
               weighs = inv .weighs;
               done = λ x k. settled e x (raised-done x k);
-              dead = λ x q. elim (explored .grown .new-tree x q) [ inl h ↦ omega (arith, inv .dead x h) | inr h ↦ h .holds ];
-              high-spare = λ s x k q m j b. omega (arith, raised-seen s (not-false (all .spareSeen s) q) m, ranked .fall t x (omega arith) b);
-              high-tree = λ y s x k q c j b. omega (arith, seen-high y s k q c, ranked .fall t x (omega arith) b);
+              held = inv .held;
+              high = λ k x a h j b. omega (arith, raised-seen k a h, ranked .fall t x (omega arith) b);
             }
-          where
-            not-false : (b : Bool) → not b ≡ false → b ≡ true
-            not-false true h = refl
-            not-false false h = clash refl h
 
-        -- The goal has been met: tree rank t is matched.
+        -- A way leads to the goal: tree rank t is matched.
         meet-keeps :
-            (goal : ℕ) (st : Search) →
-            goal < p .spares →
-            v ≡ p .spareCost goal →
-            p .spareCost goal < p .treeCost t →
-            pr .mates goal ≡ 0 →
-            AugmentingPath p goal (pr .mates) (pr .mates) t (st .mates) →
-            Invariant p (suc t) (turned p t pr goal st) new
-        meet-keeps goal st k e c f π =
+            (goal : ℕ) (way : Search) → goal < p .spares → v ≡ p .spareCost goal → p .spareCost goal < p .treeCost t → mates goal ≡ 0
+            → AugmentingPath p goal mates mates t (matesIn (turned p t pr goal way .pairs))
+            → Invariant p (suc t) (turned p t pr goal way) new
+        meet-keeps goal way k e c f π =
             record {
               pairs = flipped .0;
               weighs = omega (arith, inv .weighs, flipped .2);
               done = flipped .1;
-              dead = λ x q. omega (arith, inv .dead x q);
-              high-spare = λ s x j q m a b. elim (ℕ-discrete s goal) [
-                | yes r ↦ clash (put-same (pr .spareLive) goal true) (rw r at q)
-                | no r ↦
-                    still-high-spare s x j (sym (put-other (pr .spareLive) goal true s r) ∙ q)
-                    (λ z. m (path-free p goal (pr .mates) s r π z)) a b
+              held = held-more p q (inv .held) goal _ k (no-slot goal f);
+              high = λ a x i h j b. elim (ℕ-discrete a n) [
+                | yes y ↦ clash (put-same (pr .live) n true) (rw y at h)
+                | no y ↦ rw (put-other (q .spareOf) n goal a y) (still-high a x (omega arith) (sym (put-other (pr .live) n true a y) ∙ h) j b)
               ];
-              high-tree = still-high-tree;
             }
           where
+            n : ℕ
+            n = q .slots
+
             flipped :
-                Pairs p (suc t) (st .mates) new × ((x : ℕ) → x < suc t → Done p (st .mates) new x) ×
-                (rankWeight p (st .mates) + p .spareCost goal ≡ rankWeight p (pr .mates) + p .treeCost t)
+                let next : Mates = matesIn (turned p t pr goal way .pairs) in
+                Pairs p (suc t) next new × ((x : ℕ) → x < suc t → Done p next new x) ×
+                (rankWeight p next + p .spareCost goal ≡ rankWeight p mates + p .treeCost t)
             flipped =
-                path-turns p goal (suc t) (pr .mates) new raised-feasible f
+                path-turns p goal (suc t) mates new raised-feasible f
                 (λ x j. omega (arith, ranked .fall x t (omega arith) l, raised-free goal k f))
                 π
                 raised-pairs
                 (omega arith)
-                (λ s j q. omega (arith, inv .pairs .below s t j q))
+                (λ s j h. omega (arith, inv .pairs .below s t j h))
                 (λ s j h. omega (arith, raised-covers s j h, raised-free goal k f))
                 raised-done
-
-    mate-below : (s x : ℕ) → s < p .spares → pr .mates s ≡ suc x → x < p .trees
-    mate-below s x k e = omega (arith, inv .pairs .below s x k e)
 
     abbrev Keeps : Progress → Type 0
     Keeps next = (d′ : ℕ → ℕ) × Invariant p (suc t) next d′
 
     cheapest : ℕ
-    cheapest = cheapestOf p pr
+    cheapest = cheapestOf p mates
 
-    -- For the proof alone: all that alternating paths from tree rank t lead to.
-    all : Search
-    all = search p (p .spares) t (begun pr)
-
-    explored : Explored p (p .spares) (pr .mates) Upto Always (begun pr) t all
-    unfolding all
-    explored = search-explores p (p .spares) (begun pr) Upto Always kept mate-below t (omega arith) refl refl
-
-    cheapest-first : First (p .spares) (λ s. eqb (pr .mates s) 0) cheapest
+    cheapest-first : First (p .spares) (λ s. eqb (mates s) 0) cheapest
     unfolding cheapest
-    cheapest-first = first-is (p .spares) (λ s. eqb (pr .mates s) 0)
+    cheapest-first = first-is (p .spares) (λ s. eqb (mates s) 0)
 
     -- No other unmatched rank is cheaper.
-    cheapest-least : (s : ℕ) → s < p .spares → pr .mates s ≡ 0 → (cheapest < p .spares) × (p .spareCost cheapest ≤ p .spareCost s)
+    cheapest-least : (s : ℕ) → s < p .spares → mates s ≡ 0 → (cheapest < p .spares) × (p .spareCost cheapest ≤ p .spareCost s)
     cheapest-least s k e = elim (decLt s cheapest) [
-      | yes j ↦ clash (eq-eqb (pr .mates s) 0 e) (cheapest-first .before s j)
+      | yes j ↦ clash (eq-eqb (mates s) 0 e) (cheapest-first .before s j)
       | no j ↦ (omega arith, ranked .rise cheapest s (omega arith) k)
     ]
 
-    cheapest-hit : cheapest < p .spares → pr .mates cheapest ≡ 0
-    cheapest-hit a = eqb-true (pr .mates cheapest) 0 (cheapest-first .hit a)
+    -- For the proof alone: all that alternating paths from tree rank t lead to.
+    all : Search
+    all = search p q never (pr .live) t
+
+    all-closed : Closed p q t (begun (pr .live) t) all
+    unfolding all
+    all-closed = search-closed p q never (pr .live) t
 
     -- It costs too much, or there is none.
     too-dear : (cheapest < p .spares → p .treeCost t ≤ p .spareCost cheapest) → Keeps pr
     too-dear h =
-        let cheap : (x s : ℕ) → s < p .spares → newTrees pr all x ≡ true → p .covers x s ≡ true → pr .mates s ≡ 0 → p .treeCost t ≤ p .spareCost s = λ x s k q
-        c e. omega (arith, cheapest-least s k e .1, h (cheapest-least s k e .0)) in (
-          new (p .spares) all explored (p .treeCost t) (omega arith) cheap,
-          stay-keeps (p .spares) all explored (p .treeCost t) (omega arith) cheap refl,
+        let cheap : Cheap all (p .treeCost t) = λ x s k f c e. omega (arith, cheapest-least s k e .1, h (cheapest-least s k e .0)) in (
+          new all all-closed (p .treeCost t) (omega arith) cheap,
+          stay-keeps all all-closed (p .treeCost t) (omega arith) cheap refl,
         )
 
-    -- The search for it meets it.
-    met-cheapest :
-        cheapest < p .spares →
-        p .spareCost cheapest < p .treeCost t →
-        search p cheapest t (begun pr) .met ≡ true →
-        Keeps (turned p t pr cheapest (search p cheapest t (begun pr)))
-    met-cheapest a b m =
-        let cheap : (x s : ℕ) → s < p .spares → newTrees pr all x ≡ true → p .covers x s ≡ true → pr .mates s ≡ 0 → p .spareCost cheapest ≤ p .spareCost s = λ
-        x s k q c e. cheapest-least s k e .1 in (
-          new (p .spares) all explored (p .spareCost cheapest) (omega arith) cheap,
-          meet-keeps (p .spares) all explored (p .spareCost cheapest) (omega arith) cheap cheapest (search p cheapest t (begun pr)) a refl b (cheapest-hit a)
-              (search-turns p cheapest (begun pr) Upto Always kept mate-below t (omega arith) refl m),
+    -- The exploration that ends under the cheapest.
+    under : ℕ → Bool
+    unfolding cheapest
+    under x = p .covers x cheapest
+
+    st : Search
+    unfolding under
+    st = search p q under (pr .live) t
+
+    sound : SoundSearch p q under t (pr .live) st
+    unfolding st under
+    sound = search-sound p q under t (pr .live) apart away
+
+    st-closed : Closed p q t (begun (pr .live) t) st
+    unfolding st under
+    st-closed = search-closed p q under (pr .live) t
+
+    seen-root : st .seen t ≡ true
+    unfolding st under
+    seen-root = root-seen p q under t (pr .live) apart away
+
+    goal : ℕ
+    unfolding st
+    goal = goalOf p mates (st .seen)
+
+    goal-first : First (p .spares) (λ s. ltb (hitOf p (st .seen) s) (p .trees) && eqb (mates s) 0) goal
+    unfolding goal st
+    goal-first = first-is (p .spares) (λ s. ltb (hitOf p (st .seen) s) (p .trees) && eqb (mates s) 0)
+
+    hit-first : (s : ℕ) → First (p .trees) (λ x. st .seen x && p .covers x s) (hitOf p (st .seen) s)
+    unfolding st
+    hit-first s = first-is (p .trees) (λ x. st .seen x && p .covers x s)
+
+    way-below : {n x : ℕ} → Way p q t st n x → x < p .trees
+    way-below here = l
+    way-below (on r w) = omega (arith, r .own, tree-below (st .by _) (r .below))
+
+    -- No other unmatched rank over a tree rank visited is cheaper than the goal.
+    goal-least : (x s : ℕ) → s < p .spares → st .seen x ≡ true → p .covers x s ≡ true → mates s ≡ 0 → (goal < p .spares) × (p .spareCost goal ≤ p .spareCost s)
+    goal-least x s k h c e = elim (decLt s goal) [
+      | yes j ↦
+          clash
+          (and-both _ _ (some-of (p .trees) (λ y. st .seen y && p .covers y s) x (way-below (sound .ways x h .1)) (and-both _ _ h c)) (eq-eqb (mates s) 0 e))
+          (goal-first .before s j)
+      | no j ↦ (omega arith, ranked .rise goal s (omega arith) k)
+    ]
+
+    -- It is unmatched, and covers a tree rank visited.
+    goal-hit : goal < p .spares → (mates goal ≡ 0) × (hitOf p (st .seen) goal < p .trees)
+    goal-hit a = (
+      eqb-true (mates goal) 0 (and-second (ltb (hitOf p (st .seen) goal) (p .trees)) _ (goal-first .hit a)),
+      ltb-true _ (p .trees) (and-first _ _ (goal-first .hit a)),
+    )
+
+    -- The way back from there, turned.
+    goal-path : goal < p .spares → AugmentingPath p goal mates mates t (matesIn (turned p t pr goal st .pairs))
+    goal-path a =
+        let x : ℕ = hitOf p (st .seen) goal in
+        let (f, b) = goal-hit a in
+        let (n, w, m) = sound .ways x (and-first (st .seen x) (p .covers x goal) (hit-first goal .hit b)) in
+        let g : (ℕ → ℕ) = along p q t st w (q .treeOf) in
+        let off = off-past p q t st (q .slots) (omega arith) w in
+        let turned-is : turn st t (q .slots) x (q .slots) (q .treeOf) ≡ put g (q .slots) x =
+        turn-along p q t st (q .slots) (q .slots) w (omega arith) off (q .treeOf) in
+        rw (turned-is, mates-more (q .slots) (q .spareOf) g goal x)
+        (way-path p q t st goal (inv .held) w
+        (stop a (and-second (st .seen x) (p .covers x goal) (hit-first goal .hit b))
+        (same g f)))
+      where
+        same : (g : ℕ → ℕ) → mates goal ≡ 0 → matesBelow (q .slots) (q .spareOf) g goal ≡ mates goal
+        same g f = mates-none (q .slots) (q .spareOf) g goal (no-slot goal f) ∙ sym f
+
+    -- The exploration has ended under the cheapest, or has visited the tree rank of every slot that it has visited.
+    cheap-seen :
+        (s : ℕ) → s < p .spares → mates s ≡ 0 → (x : ℕ) → st .seen x ≡ true → under x ≡ true
+        → (goal < p .spares) × (p .spareCost goal ≤ p .spareCost s)
+    unfolding under cheapest
+    cheap-seen s k e x h u =
+        let (a, b) = cheapest-least s k e in
+        let (c, i) = goal-least x cheapest a h u (eqb-true (mates cheapest) 0 (cheapest-first .hit a)) in
+        (c, omega arith)
+
+    found-seen : ((k : ℕ) → k < q .slots → pr .live k ≡ true → st .live k ≡ false → st .seen (q .treeOf k) ≡ true) → (x : ℕ) → Found st x → st .seen x ≡ true
+    found-seen f x (inl e) = rw e seen-root
+    found-seen f x (inr (k, a, b, c, e)) = rw e at (f k a b c)
+
+    -- No unmatched rank over what has been found is cheaper than the goal.
+    least : (x s : ℕ) → s < p .spares → Found st x → p .covers x s ≡ true → mates s ≡ 0 → (goal < p .spares) × (p .spareCost goal ≤ p .spareCost s)
+    least x s k f c e = elim (sound .visited) [
+      | inl (y, h, u) ↦ cheap-seen s k e y h u
+      | inr g ↦ goal-least x s k (found-seen g x f) c e
+    ]
+
+    met-goal : goal < p .spares → p .spareCost goal < p .treeCost t → Keeps (turned p t pr goal st)
+    met-goal a b = elim (sound .visited) [
+      | inl (y, h, u) ↦
+          let cheap : Cheap all (p .spareCost goal) = λ x s k f c e. cheap-seen s k e y h u .1 in (
+            new all all-closed (p .spareCost goal) (omega arith) cheap,
+            meet-keeps all all-closed (p .spareCost goal) (omega arith) cheap goal st a refl b (goal-hit a .0) (goal-path a),
+          )
+      | inr g ↦
+          let cheap : Cheap st (p .spareCost goal) = λ x s k f c e. least x s k f c e .1 in (
+            new st st-closed (p .spareCost goal) (omega arith) cheap,
+            meet-keeps st st-closed (p .spareCost goal) (omega arith) cheap goal st a refl b (goal-hit a .0) (goal-path a),
+          )
+    ]
+
+    failed : (goal < p .spares → p .treeCost t ≤ p .spareCost goal) → Keeps (givenUp pr st)
+    failed h =
+        let cheap : Cheap st (p .treeCost t) = λ x s k f c e. omega (arith, least x s k f c e .1, h (least x s k f c e .0)) in (
+          new st st-closed (p .treeCost t) (omega arith) cheap,
+          fail-keeps st st-closed (p .treeCost t) (omega arith) cheap refl,
         )
-
-    -- It does not: all that alternating paths lead to has been visited.
-    module _ (missed : search p cheapest t (begun pr) .met ≡ false) where
-      reached : Search
-      reached = search p cheapest t (begun pr)
-
-      reached-all : Explored p cheapest (pr .mates) Upto Always (begun pr) t reached
-      unfolding reached
-      reached-all = search-fails p cheapest (begun pr) Upto Always kept mate-below t (omega arith) refl missed
-
-      goal : ℕ
-      unfolding reached
-      goal = goalOf p pr reached
-
-      goal-first : First (p .spares) (λ s. coversSome p (newTrees pr reached) s && eqb (pr .mates s) 0) goal
-      unfolding goal reached
-      goal-first = first-is (p .spares) (λ s. coversSome p (newTrees pr reached) s && eqb (pr .mates s) 0)
-
-      -- The first tree rank that has been newly visited and that s covers.
-      new-first : (s : ℕ) → First (p .trees) (λ x. newTrees pr reached x && p .covers x s) (first (p .trees) (λ x. newTrees pr reached x && p .covers x s))
-      new-first s = first-is (p .trees) (λ x. newTrees pr reached x && p .covers x s)
-
-      -- No other non-tree rank that could be the goal is cheaper.
-      goal-least :
-          (x s : ℕ) →
-          s < p .spares →
-          newTrees pr reached x ≡ true →
-          p .covers x s ≡ true →
-          pr .mates s ≡ 0 →
-          (goal < p .spares) × (p .spareCost goal ≤ p .spareCost s)
-      goal-least x s k q c e = elim (decLt s goal) [
-        | yes j ↦ clash (and-both _ _ covers (eq-eqb (pr .mates s) 0 e)) (goal-first .before s j)
-        | no j ↦ (omega arith, ranked .rise goal s (omega arith) k)
-      ]
-        where
-          below : x < p .trees
-          below = elim (reached-all .grown .new-tree x (and-first _ _ q)) [
-            | inl h ↦ clash h (not-true _ (and-second (reached .treeSeen x) _ q))
-            | inr h ↦ omega (arith, h .holds)
-          ]
-
-          covers : coversSome p (newTrees pr reached) s ≡ true
-          covers = elim (decLt (first (p .trees) (λ y. newTrees pr reached y && p .covers y s)) (p .trees)) [
-            | yes j ↦ lt-ltb _ (p .trees) j
-            | no j ↦ clash (and-both (newTrees pr reached x) (p .covers x s) q c) (new-first s .before x (omega (arith, below)))
-          ]
-
-      -- It is unmatched, and covers a tree rank that has been newly visited.
-      goal-hit : goal < p .spares → (pr .mates goal ≡ 0) × ((x : ℕ) × (newTrees pr reached x ≡ true) × (p .covers x goal ≡ true))
-      goal-hit a =
-          let covers = ltb-true _ (p .trees) (and-first _ _ (goal-first .hit a)) in
-          let both = new-first goal .hit covers in (
-            eqb-true (pr .mates goal) 0 (and-second (coversSome p (newTrees pr reached) goal) _ (goal-first .hit a)),
-            (_, and-first _ _ both, and-second (newTrees pr reached _) _ both),
-          )
-
-      goal-path : goal < p .spares → AugmentingPath p goal (pr .mates) (pr .mates) t (search p goal t (begun pr) .mates)
-      unfolding reached
-      goal-path a =
-          let (x, q, c) = goal-hit a .1 in
-          search-meets p (begun pr) mate-below refl t cheapest goal x missed (and-first _ _ q) (not-true _ (and-second (reached .treeSeen x) _ q)) a c
-
-      -- The goal costs less than tree rank t, or it does not, or there is none.
-      met-goal : goal < p .spares → p .spareCost goal < p .treeCost t → Keeps (turned p t pr goal (search p goal t (begun pr)))
-      met-goal a b =
-          let cheap : (x s : ℕ) → s < p .spares → newTrees pr reached x ≡ true → p .covers x s ≡ true → pr .mates s ≡ 0 → p .spareCost goal ≤ p .spareCost s =
-          λ x s k q c e. goal-least x s k q c e .1 in (
-            new cheapest reached reached-all (p .spareCost goal) (omega arith) cheap,
-            meet-keeps cheapest reached reached-all (p .spareCost goal) (omega arith) cheap goal (search p goal t (begun pr)) a refl b (goal-hit a .0)
-                (goal-path a),
-          )
-
-      failed :
-          (goal < p .spares → p .treeCost t ≤ p .spareCost goal) →
-          Keeps (givenUp pr reached)
-      failed h =
-          let cheap : (x s : ℕ) → s < p .spares → newTrees pr reached x ≡ true → p .covers x s ≡ true → pr .mates s ≡ 0 → p .treeCost t ≤ p .spareCost s = λ x
-          s k q c e. omega (arith, goal-least x s k q c e .1, h (goal-least x s k q c e .0)) in (
-            new cheapest reached reached-all (p .treeCost t) (omega arith) cheap,
-            fail-keeps cheapest reached reached-all (p .treeCost t) (omega arith) cheap refl,
-          )
 
     worth-yes : (g : ℕ) → worth p t g ≡ true → (g < p .spares) × (p .spareCost g < p .treeCost t)
-    worth-yes g q = (ltb-true _ _ (and-first _ _ q), ltb-true _ _ (and-second (ltb g (p .spares)) _ q))
+    worth-yes g h = (ltb-true _ _ (and-first _ _ h), ltb-true _ _ (and-second (ltb g (p .spares)) _ h))
 
     worth-no : (g : ℕ) → worth p t g ≡ false → g < p .spares → p .treeCost t ≤ p .spareCost g
-    worth-no g q a = ltb-false _ _ (and-miss (ltb g (p .spares)) _ q (lt-ltb g (p .spares) a))
-
-    reached-keeps : search p cheapest t (begun pr) .met ≡ false → Keeps (augmentReached p t pr (search p cheapest t (begun pr)))
-    unfolding goal reached
-    reached-keeps m =
-        choose-both Keeps _ _ _
-        (λ q. met-goal m (worth-yes (goal m) q .0) (worth-yes (goal m) q .1))
-        (λ q. failed m (worth-no (goal m) q))
+    worth-no g h a = ltb-false _ _ (and-miss (ltb g (p .spares)) _ h (lt-ltb g (p .spares) a))
 
     pub augment-keeps : Keeps (augment p t pr)
-    unfolding augment cheapest
+    unfolding augment cheapest goal st under
     augment-keeps =
         choose-both Keeps _ _ _
-        (λ q. choose-both Keeps _ _ _ (met-cheapest (worth-yes cheapest q .0) (worth-yes cheapest q .1)) reached-keeps)
-        (λ q. too-dear (worth-no cheapest q))
+        (λ _. choose-both Keeps _ _ _ (λ h. met-goal (worth-yes goal h .0) (worth-yes goal h .1)) (λ h. failed (worth-no goal h)))
+        (λ h. too-dear (worth-no cheapest h))

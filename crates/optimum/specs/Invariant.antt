@@ -11,7 +11,7 @@ use Rattle.loops.specs.Loop.{put}
 use Rattle.loops.specs.SumLaws.{sum-change}
 use Rattle.loops.specs.PutLaws.{put-same, put-other}
 use Rattle.optimum.specs.Search.{Problem, Mates}
-use Rattle.optimum.specs.Slackness.{Unmatched, pairWeight, rankWeight}
+use Rattle.optimum.specs.Slackness.{Valid, Unmatched, pairWeight, rankWeight}
 use Rattle.optimum.specs.Matched.{Matched}
 use Rattle.optimum.specs.SearchLaws.{AugmentingPath, stop, via}
 
@@ -25,6 +25,10 @@ pub record Pairs (p : Problem) (n : ℕ) (mates : Mates) (d : ℕ → ℕ) : Typ
   pub above : (s : ℕ) → s < p .spares → p .spareCost s ≤ d s
   pub free : (s : ℕ) → s < p .spares → mates s ≡ 0 → d s ≡ p .spareCost s
   pub under : (s t : ℕ) → s < p .spares → mates s ≡ suc t → d s ≤ p .treeCost t
+
+pub pairs-valid : {p : Problem} {n : ℕ} {mates : Mates} {d : ℕ → ℕ} → Pairs p n mates d → n ≤ p .trees → Valid p mates
+pairs-valid g l =
+    record { below = λ s t h e. omega (arith, g .below s t h e); covers = g .covers; falls = g .falls; once = g .once }
 
 -- Tree rank t can stay unmatched: what covers it costs at least as much.
 abbrev pub Settled : Problem → (ℕ → ℕ) → ℕ → Type 0

@@ -1,434 +1,319 @@
--- The invariant of the labels while they are given: what has a label is closed under alternating steps, along which
--- labels do not fall, and every label is at least each cost still to come. Assumes nothing.
+-- The invariant of the labels while they are given: the slots that have a label are closed under alternating steps, along
+-- which labels do not fall, and every label is at least each cost still to come. Assumes nothing.
 use Prim.Native.Nat.{ℕ, zero, suc, _+_, _≤_, _<_}
 use native.Mathlib.Decide.{ℕ-discrete}
 use native.Mathlib.Omega.{arith}
-use mathlib.Core.Path.{_≡_, refl, _∙_}
-use mathlib.Core.Logic.{_≢_, _⊎_, inl, inr}
-use mathlib.Core.Bool.{Bool, true, false, cond, not, _&&_}
-use lib.Dec.{ltb, leb}
-use borrow.Author.Tests.{eq-eqb, eqb-true, ltb-true, lt-ltb, leb-true, leb-false}
-use Rattle.loops.specs.TestLaws.{truth, clash, and-first, and-second, and-miss, or-either, or-neither, choose-both}
-use Rattle.loops.specs.PutLaws.{put-same}
-use Rattle.optimum.specs.Search.{Problem, Mates, Search, seeSpare, search}
+use mathlib.Core.Path.{_≡_, refl, sym, _∙_}
+use mathlib.Core.Logic.{inl, inr}
+use mathlib.Core.Bool.{Bool, true, false}
+use lib.Dec.{ltb, eqb}
+use borrow.Author.Tests.{ltb-true, ltb-false, lt-ltb, leb-true, leb-false, eq-eqb, eqb-true}
+use Rattle.loops.specs.Loop.{put}
+use Rattle.loops.specs.TestLaws.{truth, clash, and-first, and-second, and-miss, choose-both}
+use Rattle.loops.specs.PutLaws.{put-same, put-other, put-split, put-less}
+use Rattle.loops.specs.FirstLaws.{first-is, some-of}
+use Rattle.optimum.specs.Search.{Problem, Slots, matesIn, treeSlot, spareSlot, Search, never, begun, search}
 use Rattle.optimum.specs.Slackness.{Ranked, Unmatched}
-use Rattle.optimum.specs.Lowest.{Labels, unlabelled, fresh, labelled, matched, labelTree, mateSearch, labelSpare, labelFrom, labels}
-use Rattle.optimum.specs.Matched.{Mate, mate, free, pair, Matched, matched-true, matched-false}
-use Rattle.optimum.specs.SearchLaws.{Kept, TreeClosed, SpareClosed, Grown, grown-spare, grown-see, Explored, search-explores}
+use Rattle.optimum.specs.Lowest.{Marks, marked, labelTree, labelSlot, labelFrom, unlabelled, slotMarks}
+use Rattle.optimum.specs.SlotLaws.{HeldSlots, mates-view, mates-at, slot-found}
+use Rattle.optimum.specs.SearchLaws.{Closed, unlive, search-keeps, search-closed}
 
--- What a label says of its rank: the origin's old cost says it of the origin, and alternating steps hand it on.
-pub record Says (p : Problem) (mates : Mates) (OnTree OnSpare : ℕ → ℕ → Type 0) : Type 0 where
-  pub from-tree : (t : ℕ) → t < p .trees → Unmatched p mates t → OnTree t (p .treeCost t)
-  pub from-spare : (s : ℕ) → s < p .spares → OnSpare s (p .spareCost s)
-  pub to-spare : (t s v : ℕ) → s < p .spares → OnTree t v → p .covers t s ≡ true → OnSpare s v
-  pub to-mate : (s t v : ℕ) → s < p .spares → OnSpare s v → mates s ≡ suc t → OnTree t v
+-- What a label says of its slot: the origin's old cost says it of the slots over it, and alternating steps hand it on.
+pub record Says (p : Problem) (q : Slots) (OnSlot : ℕ → ℕ → Type 0) : Type 0 where
+  pub from-tree : (t k : ℕ) → t < p .trees → Unmatched p (matesIn q) t → k < q .slots → p .covers t (q .spareOf k) ≡ true → OnSlot k (p .treeCost t)
+  pub from-own : (k : ℕ) → k < q .slots → OnSlot k (p .spareCost (q .spareOf k))
+  pub hands-on : (k k′ v : ℕ) → k < q .slots → k′ < q .slots → OnSlot k v → p .covers (q .treeOf k) (q .spareOf k′) ≡ true → OnSlot k′ v
 
--- v is at least the cost of every rank to come: tree ranks from n up, non-tree ranks below k.
-pub record Top (p : Problem) (n k v : ℕ) : Type 0 where
+-- No slot over the tree rank of a slot that was visited is live any more.
+abbrev Closure : Problem → Slots → (ℕ → Bool) → (ℕ → Bool) → Type 0
+Closure p q before after =
+    (k k′ : ℕ) → k < q .slots → k′ < q .slots → before k ≡ true → after k ≡ false → p .covers (q .treeOf k) (q .spareOf k′) ≡ true → after k′ ≡ false
+
+-- v is at least the cost of every rank to come: tree ranks from n up, non-tree ranks below s.
+pub record Top (p : Problem) (n s v : ℕ) : Type 0 where
   pub trees : (t : ℕ) → n ≤ t → t < p .trees → p .treeCost t ≤ v
-  pub spares : (s : ℕ) → s < k → p .spareCost s ≤ v
+  pub spares : (x : ℕ) → x < s → p .spareCost x ≤ v
 
--- Labels given so far.
-pub record Closed (p : Problem) (mates : Mates) (OnTree OnSpare : ℕ → ℕ → Type 0) (n k : ℕ) (l : Labels) : Type 0 where
-  pub covered :
-      (t s : ℕ) →
-      s < p .spares →
-      l .treeDone t ≡ true →
-      p .covers t s ≡ true →
-      mates s ≢ 0 →
-      (l .spareDone s ≡ true) × (l .treeLabel t ≤ l .spareLabel s)
-  pub followed : (s t : ℕ) → s < p .spares → l .spareDone s ≡ true → mates s ≡ suc t → (l .treeDone t ≡ true) × (l .spareLabel s ≤ l .treeLabel t)
-  pub tree-top : (t : ℕ) → l .treeDone t ≡ true → Top p n k (l .treeLabel t)
-  pub spare-top : (s : ℕ) → l .spareDone s ≡ true → mates s ≢ 0 → Top p n k (l .spareLabel s)
-  pub on-tree : (t : ℕ) → l .treeDone t ≡ true → OnTree t (l .treeLabel t)
-  pub on-spare : (s : ℕ) → s < p .spares → l .spareDone s ≡ true → OnSpare s (l .spareLabel s)
-  pub free : (s : ℕ) → s < p .spares → mates s ≡ 0 → (l .spareDone s ≡ true) × (l .spareLabel s ≡ p .spareCost s)
+-- Labels when tree ranks below n and non-tree ranks from s up had their turns.
+pub record Labelling (p : Problem) (q : Slots) (OnSlot : ℕ → ℕ → Type 0) (n s : ℕ) (l : Marks) : Type 0 where
+  pub followed :
+      (k k′ : ℕ) → k < q .slots → k′ < q .slots → l .live k ≡ false → p .covers (q .treeOf k) (q .spareOf k′) ≡ true
+      → (l .live k′ ≡ false) × (l .label k ≤ l .label k′)
+  pub top : (k : ℕ) → k < q .slots → l .live k ≡ false → Top p n s (l .label k)
+  pub says : (k : ℕ) → k < q .slots → l .live k ≡ false → OnSlot k (l .label k)
+  pub tree-own :
+      (t k : ℕ) → t < n → Unmatched p (matesIn q) t → k < q .slots → p .covers t (q .spareOf k) ≡ true
+      → (l .live k ≡ false) × (p .treeCost t ≤ l .label k)
+  pub spare-own : (k : ℕ) → k < q .slots → s ≤ q .spareOf k → (l .live k ≡ false) × (p .spareCost (q .spareOf k) ≤ l .label k)
 
--- And every rank that had its turn has one, of at least its old cost.
-pub record Labelling (p : Problem) (mates : Mates) (OnTree OnSpare : ℕ → ℕ → Type 0) (n k : ℕ) (l : Labels) : Type 0 where
-  pub closed : Closed p mates OnTree OnSpare n k l
-  pub tree-own : (t : ℕ) → t < n → Unmatched p mates t → (l .treeDone t ≡ true) × (p .treeCost t ≤ l .treeLabel t)
-  pub spare-own : (s : ℕ) → k ≤ s → s < p .spares → (l .spareDone s ≡ true) × (p .spareCost s ≤ l .spareLabel s)
+top-later : (p : Problem) (n s n′ s′ v : ℕ) → n ≤ n′ → s′ ≤ s → Top p n s v → Top p n′ s′ v
+top-later p n s n′ s′ v a b h =
+    record { trees = λ t c l. h .trees t (omega arith) l; spares = λ x c. h .spares x (omega arith) }
 
-top-later : (p : Problem) (n k n′ k′ v : ℕ) → n ≤ n′ → k′ ≤ k → Top p n k v → Top p n′ k′ v
-top-later p n k n′ k′ v a b h =
-    record { trees = λ t q l. h .trees t (omega arith) l; spares = λ s q. h .spares s (omega arith) }
+-- The label after an exploration that gives v: v to what it has visited, and the old one to the others.
+label-new : (v : ℕ) (st : Search) (l : Marks) (k : ℕ) → l .live k ≡ true → st .live k ≡ false → marked v st l .label k ≡ v
+label-new v st l k a b = rw (a, b)
 
--- The label after a search that gives v, of a rank that it has visited or that had one.
-relabel :
-    (v : ℕ) (seen done : ℕ → Bool) (label : ℕ → ℕ) (i : ℕ) (C : Type 0) →
-    seen i ≡ true →
-    (done i ≡ true) ⊎ C →
-    ((done i ≡ true) × (cond (seen i && not (done i)) v (label i) ≡ label i)) ⊎ (C × (cond (seen i && not (done i)) v (label i) ≡ v))
-relabel v seen done label i C h c = at-done (truth (done i)) c
-  where
-    at-done :
-        (done i ≡ true) ⊎ (done i ≡ false) →
-        (done i ≡ true) ⊎ C →
-        ((done i ≡ true) × (cond (seen i && not (done i)) v (label i) ≡ label i)) ⊎ (C × (cond (seen i && not (done i)) v (label i) ≡ v))
-    at-done (inl q) c = inl (q, rw (h, q))
-    at-done (inr q) (inl r) = clash r q
-    at-done (inr q) (inr r) = inr (r, rw (h, q))
+label-old : (v : ℕ) (st : Search) (l : Marks) (k : ℕ) → l .live k ≡ false → marked v st l .label k ≡ l .label k
+label-old v st l k a = rw a
 
-relabel-old : (v : ℕ) (seen done : Bool) (label : ℕ) → done ≡ true → cond (seen && not done) v label ≡ label
-relabel-old v true done label h = rw h
-relabel-old v false done label h = refl
-
--- What the labels of a search's new ranks leave of the others, and give.
-record Relabelled (p : Problem) (mates : Mates) (OnTree OnSpare : ℕ → ℕ → Type 0) (n k v : ℕ) (l l′ : Labels) : Type 0 where
-  closed : Closed p mates OnTree OnSpare n k l′
-  tree-stays : (t a : ℕ) → (l .treeDone t ≡ true) × (a ≤ l .treeLabel t) → (l′ .treeDone t ≡ true) × (a ≤ l′ .treeLabel t)
-  spare-stays : (s a : ℕ) → (l .spareDone s ≡ true) × (a ≤ l .spareLabel s) → (l′ .spareDone s ≡ true) × (a ≤ l′ .spareLabel s)
-  tree-floor : (t : ℕ) → l′ .treeDone t ≡ true → v ≤ l′ .treeLabel t
-  spare-floor : (s : ℕ) → l′ .spareDone s ≡ true → mates s ≢ 0 → v ≤ l′ .spareLabel s
-
--- Everything newly visited is labelled v, a cost that was to come.
+-- Alternating steps hand a property of slots on: all that an exploration has visited has it.
 module _
     (p : Problem)
-    (mates : Mates)
-    (OnTree OnSpare : ℕ → ℕ → Type 0)
-    (n k n′ k′ : ℕ)
-    (later : n ≤ n′)
-    (fewer : k′ ≤ k)
-    (l : Labels)
-    (c : Closed p mates OnTree OnSpare n k l)
-    (v : ℕ)
-    (tree-low : (t : ℕ) → l .treeDone t ≡ true → v ≤ l .treeLabel t)
-    (spare-low : (s : ℕ) → l .spareDone s ≡ true → mates s ≢ 0 → v ≤ l .spareLabel s)
-    (top : Top p n′ k′ v)
-    (st : Search)
-    (g : Grown p (p .spares) mates (λ t. OnTree t v) (λ s. OnSpare s v) (fresh mates l) st)
+    (q : Slots)
+    (OnSlot : ℕ → Type 0)
+    (on : (k k′ : ℕ) → k < q .slots → k′ < q .slots → OnSlot k → p .covers (q .treeOf k) (q .spareOf k′) ≡ true → OnSlot k′)
+    (live : ℕ → Bool)
   where
-    abbrev next : Labels
-    next = labelled v st l
+    record Told (st : Search) : Type 0 where
+      trees : (x k : ℕ) → st .seen x ≡ true → k < q .slots → p .covers x (q .spareOf k) ≡ true → OnSlot k
+      slots : (k : ℕ) → k < q .slots → live k ≡ true → st .live k ≡ false → OnSlot k
 
-    tree-view :
-        (t : ℕ) →
-        st .treeSeen t ≡ true →
-        ((l .treeDone t ≡ true) × (next .treeLabel t ≡ l .treeLabel t)) ⊎
-        (TreeClosed p (p .spares) (λ t. OnTree t v) (st .spareSeen) t × (next .treeLabel t ≡ v))
-    tree-view t h = relabel v (st .treeSeen) (l .treeDone) (l .treeLabel) t (TreeClosed p (p .spares) (λ t. OnTree t v) (st .spareSeen) t) h (g .new-tree t h)
-
-    spare-view :
-        (s : ℕ) →
-        st .spareSeen s ≡ true →
-        ((l .spareDone s ≡ true) × (next .spareLabel s ≡ l .spareLabel s)) ⊎
-        (SpareClosed p mates (λ s. OnSpare s v) (st .treeSeen) s × (next .spareLabel s ≡ v))
-    spare-view s h = relabel v (st .spareSeen) (l .spareDone) (l .spareLabel) s (SpareClosed p mates (λ s. OnSpare s v) (st .treeSeen) s) h (g .new-spare s h)
-
-    tree-floor : (t : ℕ) → st .treeSeen t ≡ true → v ≤ next .treeLabel t
-    tree-floor t h = elim (tree-view t h) [ inl q ↦ omega (arith, tree-low t (q .0), q .1) | inr q ↦ omega (arith, q .1) ]
-
-    spare-floor : (s : ℕ) → st .spareSeen s ≡ true → mates s ≢ 0 → v ≤ next .spareLabel s
-    spare-floor s h m = elim (spare-view s h) [ inl q ↦ omega (arith, spare-low s (q .0) m, q .1) | inr q ↦ omega (arith, q .1) ]
-
-    tree-old : (t : ℕ) → l .treeDone t ≡ true → next .treeLabel t ≡ l .treeLabel t
-    tree-old t h = relabel-old v (st .treeSeen t) (l .treeDone t) (l .treeLabel t) h
-
-    spare-old : (s : ℕ) → l .spareDone s ≡ true → next .spareLabel s ≡ l .spareLabel s
-    spare-old s h = relabel-old v (st .spareSeen s) (l .spareDone s) (l .spareLabel s) h
-
-    next-closed : Closed p mates OnTree OnSpare n′ k′ next
-    next-closed =
-        record {
-          covered =
-              λ t s b h e m.
-              elim (tree-view t h) [
-                | inl q ↦
-                    let w : (l .spareDone s ≡ true) × (l .treeLabel t ≤ l .spareLabel s) = c .covered t s b (q .0) e m in
-                    (g .spares s (w .0), omega (arith, q .1, w .1, spare-old s (w .0)))
-                | inr q ↦ (q .0 .tried s b e, omega (arith, q .1, spare-floor s (q .0 .tried s b e) m))
-              ];
-          followed =
-              λ s t b h e.
-              elim (spare-view s h) [
-                | inl q ↦
-                    let w : (l .treeDone t ≡ true) × (l .spareLabel s ≤ l .treeLabel t) = c .followed s t b (q .0) e in
-                    (g .trees t (w .0), omega (arith, q .1, w .1, tree-old t (w .0)))
-                | inr q ↦ (q .0 .followed t e, omega (arith, q .1, tree-floor t (q .0 .followed t e)))
-              ];
-          tree-top =
-              λ t h.
-              elim (tree-view t h) [
-                | inl q ↦ rw (q .1) (top-later p n k n′ k′ (l .treeLabel t) later fewer (c .tree-top t (q .0)))
-                | inr q ↦ rw (q .1) top
-              ];
-          spare-top =
-              λ s h m.
-              elim (spare-view s h) [
-                | inl q ↦ rw (q .1) (top-later p n k n′ k′ (l .spareLabel s) later fewer (c .spare-top s (q .0) m))
-                | inr q ↦ rw (q .1) top
-              ];
-          on-tree = λ t h. elim (tree-view t h) [ inl q ↦ rw (q .1) (c .on-tree t (q .0)) | inr q ↦ rw (q .1) (q .0 .holds) ];
-          on-spare = λ s b h. elim (spare-view s h) [ inl q ↦ rw (q .1) (c .on-spare s b (q .0)) | inr q ↦ rw (q .1) (q .0 .holds) ];
-          free = λ s b e. let w = c .free s b e in (g .spares s (w .0), spare-old s (w .0) ∙ w .1);
-        }
-
-    relabelled : Relabelled p mates OnTree OnSpare n′ k′ v l next
-    relabelled =
-        record {
-          closed = next-closed;
-          tree-stays = λ t a h. (g .trees t (h .0), omega (arith, h .1, tree-old t (h .0)));
-          spare-stays = λ s a h. (g .spares s (h .0), omega (arith, h .1, spare-old s (h .0)));
-          tree-floor = tree-floor;
-          spare-floor = spare-floor;
-        }
-
-closed-later :
-    (p : Problem) (mates : Mates) (OnTree OnSpare : ℕ → ℕ → Type 0) (n k n′ k′ : ℕ) (l : Labels) →
-    n ≤ n′ →
-    k′ ≤ k →
-    Closed p mates OnTree OnSpare n k l →
-    Closed p mates OnTree OnSpare n′ k′ l
-closed-later p mates OnTree OnSpare n k n′ k′ l a b c =
-    record {
-      covered = c .covered;
-      followed = c .followed;
-      tree-top = λ t h. top-later p n k n′ k′ (l .treeLabel t) a b (c .tree-top t h);
-      spare-top = λ s h m. top-later p n k n′ k′ (l .spareLabel s) a b (c .spare-top s h m);
-      on-tree = c .on-tree;
-      on-spare = c .on-spare;
-      free = c .free;
-    }
-
-module _
-    (p : Problem)
-    (mates : Mates)
-    (below : (s t : ℕ) → s < p .spares → mates s ≡ suc t → t < p .trees)
-    (OnTree OnSpare : ℕ → ℕ → Type 0)
-    (says : Says p mates OnTree OnSpare)
-  where
-    -- A search that hands on v, and the labels when tree ranks below n and non-tree ranks from k up had their turns.
-    abbrev Grows : ℕ → Search → Search → Type 0
-    Grows v = Grown p (p .spares) mates (λ t. OnTree t v) (λ s. OnSpare s v)
-
-    abbrev Explores : ℕ → Search → ℕ → Search → Type 0
-    Explores v = Explored p (p .spares) mates (λ t. OnTree t v) (λ s. OnSpare s v)
-
-    abbrev Turned : ℕ → ℕ → Labels → Type 0
-    Turned = Labelling p mates OnTree OnSpare
-
-    kept : (v : ℕ) (start : Search) → start .mates ≡ mates → Kept p start (λ t. OnTree t v) (λ s. OnSpare s v)
-    kept v start e =
-        record {
-          to-spare = λ t s b o h f. says .to-spare t s v b o h;
-          to-mate = λ s t b o h f. says .to-mate s t v b o (rw e at h);
-        }
-
-    -- What a search from an unmatched tree rank visits.
-    tree-search : (t v : ℕ) (l : Labels) → OnTree t v → Explores v (fresh mates l) t (search p (p .spares) t (fresh mates l))
-    tree-search t v l o =
-        search-explores p (p .spares) (fresh mates l) (λ t. OnTree t v) (λ s. OnSpare s v) (kept v (fresh mates l) refl) below t o refl refl
-
-    -- What a search from a non-tree rank visits.
-    spare-search :
-        (s v : ℕ) (l : Labels) → s < p .spares → OnSpare s v → (mate : ℕ) → mates s ≡ mate
-        → Grows v (fresh mates l) (mateSearch p s mate (seeSpare s (fresh mates l)))
-        × (mateSearch p s mate (seeSpare s (fresh mates l)) .spareSeen s ≡ true)
-    unfolding mateSearch
-    spare-search s v l b o zero e = (
-      grown-see p (p .spares) mates (λ t. OnTree t v) (λ s. OnSpare s v) s (fresh mates l) refl
-          record { below = b; holds = o; followed = λ t q. absurd (omega (arith, e, q)) },
-      put-same (l .spareDone) s true,
-    )
-    spare-search s v l b o (suc t) e =
-        choose-both (λ st. Grows v (fresh mates l) st × (st .spareSeen s ≡ true)) _ _ _
-        (λ h. (
-          grown-see p (p .spares) mates (λ t. OnTree t v) (λ s. OnSpare s v) s (fresh mates l) refl (spare-closed (l .treeDone) h),
-          put-same (l .spareDone) s true,
-        ))
-        (λ h.
-        let x : Explores v (seeSpare s (fresh mates l)) t (search p (p .spares) t (seeSpare s (fresh mates l))) = search-explores p (p .spares)
-        (seeSpare s (fresh mates l)) (λ t. OnTree t v) (λ s. OnSpare s v) (kept v (seeSpare s (fresh mates l)) refl) below t
-        (says .to-mate s t v b o e) refl refl in (
-          grown-spare p (p .spares) mates (λ t. OnTree t v) (λ s. OnSpare s v) s (fresh mates l) (search p (p .spares) t (seeSpare s (fresh mates l)))
-              (x .grown) (spare-closed (search p (p .spares) t (seeSpare s (fresh mates l)) .treeSeen) (x .seen)),
-          x .grown .spares s (put-same (l .spareDone) s true),
-        ))
-      where
-        spare-closed : (seen : ℕ → Bool) → seen t ≡ true → SpareClosed p mates (λ s. OnSpare s v) seen s
-        spare-closed seen h =
-            record {
-              below = b;
-              holds = o;
-              followed = λ x q. let same : t ≡ x = omega (arith, e, q) in rw same at h;
-            }
-
-    -- The turn of tree rank n.
-    tree-turn : (n k : ℕ) (l : Labels) → n < p .trees → Top p (suc n) k (p .treeCost n) → Turned n k l → Turned (suc n) k (labelTree p mates n l)
-    unfolding labelTree
-    tree-turn n k l b top i =
-        choose-both (Turned (suc n) k) _ _ _
-        (λ q. skipped (or-either _ _ q))
-        (λ q.
-        let v : ℕ = p .treeCost n in
-        let st : Search = search p (p .spares) n (fresh mates l) in
-        let x : Explores v (fresh mates l) n st = tree-search n v l (says .from-tree n b (matched-false p mates n (or-neither _ _ q .0))) in
-        let r : Relabelled p mates OnTree OnSpare (suc n) k v l (labelled v st l) = relabelled p mates OnTree OnSpare n k (suc n) k (omega arith)
-        (omega arith) l (i .closed) v low-tree low-spare top st (x .grown) in
-        record {
-          closed = r .closed;
-          tree-own = own (labelled v st l) (r .tree-stays) (λ _. (x .seen, r .tree-floor n (x .seen)));
-          spare-own = λ s a c. r .spare-stays s (p .spareCost s) (i .spare-own s a c);
+    search-tells :
+        (t : ℕ) → ((k : ℕ) → k < q .slots → p .covers t (q .spareOf k) ≡ true → OnSlot k) → (k : ℕ) → k < q .slots → live k ≡ true
+        → search p q never live t .live k ≡ false → OnSlot k
+    search-tells t f = search-keeps p q never Told
+        (λ x k st a c v h i. record {
+          trees = λ y j e b d. elim (put-split (st .seen) (q .treeOf k) y e) [
+            | inl r ↦ on k j a b (i .trees x k h a c) (rw r at d)
+            | inr r ↦ i .trees y j r b d
+          ];
+          slots = λ j b e g. elim (ℕ-discrete j k) [
+            | yes r ↦ rw r (i .trees x k h a c)
+            | no r ↦ i .slots j b e (sym (put-other (st .live) k false j r) ∙ g)
+          ];
         })
-      where
-        own :
-            (l′ : Labels) →
-            ((t a : ℕ) → (l .treeDone t ≡ true) × (a ≤ l .treeLabel t) → (l′ .treeDone t ≡ true) × (a ≤ l′ .treeLabel t)) →
-            (Unmatched p mates n → (l′ .treeDone n ≡ true) × (p .treeCost n ≤ l′ .treeLabel n)) →
-            (t : ℕ) →
-            t < suc n →
-            Unmatched p mates t →
-            (l′ .treeDone t ≡ true) × (p .treeCost t ≤ l′ .treeLabel t)
-        own l′ stays at-n t h u =
-            elim (ℕ-discrete n t) [
-              | yes q ↦ rw (← q) (at-n (rw q u))
-              | no q ↦ stays t (p .treeCost t) (i .tree-own t (omega arith) u)
-            ]
-
-        unchanged : (Unmatched p mates n → (l .treeDone n ≡ true) × (p .treeCost n ≤ l .treeLabel n)) → Turned (suc n) k l
-        unchanged at-n =
-            record {
-              closed = closed-later p mates OnTree OnSpare n k (suc n) k l (omega arith) (omega arith) (i .closed);
-              tree-own = own l (λ t a h. h) at-n;
-              spare-own = i .spare-own;
-            }
-
-        low-tree : (t : ℕ) → l .treeDone t ≡ true → p .treeCost n ≤ l .treeLabel t
-        low-tree t h = i .closed .tree-top t h .trees n (omega arith) b
-
-        low-spare : (s : ℕ) → l .spareDone s ≡ true → mates s ≢ 0 → p .treeCost n ≤ l .spareLabel s
-        low-spare s h m = i .closed .spare-top s h m .trees n (omega arith) b
-
-        skipped : (matched p mates n ≡ true) ⊎ (l .treeDone n ≡ true) → Turned (suc n) k l
-        skipped (inl m) =
-            let w : Matched p mates n = matched-true p mates n m in
-            unchanged (λ u. absurd (u (w .0) (w .1) (w .2)))
-        skipped (inr h) = unchanged (λ _. (h, low-tree n h))
-
-    -- The turn of non-tree rank s.
-    spare-turn : (n s : ℕ) (l : Labels) → s < p .spares → Top p n s (p .spareCost s) → Turned n (suc s) l → Turned n s (labelSpare p mates s l)
-    unfolding labelSpare
-    spare-turn n s l b top i =
-        choose-both (Turned n s) _ _ _
-        (λ h.
+        (λ u st e h i. clash e refl)
+        live t
         record {
-          closed = closed-later p mates OnTree OnSpare n (suc s) n s l (omega arith) (omega arith) (i .closed);
-          tree-own = i .tree-own;
-          spare-own = own l (λ x a q. q) (h, done-own h (mate mates s));
-        })
-        (λ h.
-        let st : Search = mateSearch p s (mates s) (seeSpare s (fresh mates l)) in
-        let x : Grows v (fresh mates l) st × (st .spareSeen s ≡ true) = spare-search s v l b (says .from-spare s b) (mates s) refl in
-        let r : Relabelled p mates OnTree OnSpare n s v l (labelled v st l) = relabelled p mates OnTree OnSpare n (suc s) n s (omega arith) (omega arith) l
-        (i .closed) v low-tree low-spare top st (x .0) in
-        record {
-          closed = r .closed;
-          tree-own = λ t a u. r .tree-stays t (p .treeCost t) (i .tree-own t a u);
-          spare-own = own (labelled v st l) (r .spare-stays) (x .1, r .spare-floor s (x .1) (λ e. clash (i .closed .free s b e .0) h));
-        })
-      where
-        v : ℕ
-        v = p .spareCost s
+          trees = λ y j e b d. elim (put-split (λ _. false) t y e) [ inl r ↦ f j b (rw r at d) | inr r ↦ clash r refl ];
+          slots = λ k a e g. clash e g;
+        } .0 .slots
 
-        own :
-            (l′ : Labels) →
-            ((x a : ℕ) → (l .spareDone x ≡ true) × (a ≤ l .spareLabel x) → (l′ .spareDone x ≡ true) × (a ≤ l′ .spareLabel x)) →
-            (l′ .spareDone s ≡ true) × (v ≤ l′ .spareLabel s) →
-            (x : ℕ) →
-            s ≤ x →
-            x < p .spares →
-            (l′ .spareDone x ≡ true) × (p .spareCost x ≤ l′ .spareLabel x)
-        own l′ stays at-s x h e =
-            elim (ℕ-discrete s x) [
-              | yes q ↦ rw (← q) at-s
-              | no q ↦ stays x (p .spareCost x) (i .spare-own x (omega arith) e)
-            ]
+module _ (p : Problem) (q : Slots) (held : HeldSlots p q) (OnSlot : ℕ → ℕ → Type 0) (says : Says p q OnSlot) where
+  abbrev Turned : ℕ → ℕ → Marks → Type 0
+  Turned = Labelling p q OnSlot
 
-        low-tree : (t : ℕ) → l .treeDone t ≡ true → v ≤ l .treeLabel t
-        low-tree t h = i .closed .tree-top t h .spares s (omega arith)
+  -- What the turns of tree ranks from n below n′ leave, and those of non-tree ranks from s′ below s.
+  abbrev TreesHad : ℕ → ℕ → Marks → Type 0
+  TreesHad n n′ l =
+      (t k : ℕ) → t < n′ → n ≤ t → Unmatched p (matesIn q) t → k < q .slots → p .covers t (q .spareOf k) ≡ true
+      → (l .live k ≡ false) × (p .treeCost t ≤ l .label k)
 
-        low-spare : (x : ℕ) → l .spareDone x ≡ true → mates x ≢ 0 → v ≤ l .spareLabel x
-        low-spare x h m = i .closed .spare-top x h m .spares s (omega arith)
+  abbrev SparesHad : ℕ → ℕ → Marks → Type 0
+  SparesHad s s′ l =
+      (k : ℕ) → k < q .slots → s′ ≤ q .spareOf k → q .spareOf k < s → (l .live k ≡ false) × (p .spareCost (q .spareOf k) ≤ l .label k)
 
-        done-own : l .spareDone s ≡ true → Mate mates s → v ≤ l .spareLabel s
-        done-own h (free e) = omega (arith, i .closed .free s b e .1)
-        done-own h (pair t e) = low-spare s h (λ z. omega (arith, e, z))
+  -- Everything newly visited is labelled v, a cost that was to come.
+  module _
+      (n s n′ s′ : ℕ)
+      (later : n ≤ n′)
+      (fewer : s′ ≤ s)
+      (l : Marks)
+      (i : Turned n s l)
+      (v : ℕ)
+      (low : (k : ℕ) → k < q .slots → l .live k ≡ false → v ≤ l .label k)
+      (top : Top p n′ s′ v)
+      (st : Search)
+      (falls : (k : ℕ) → st .live k ≡ true → l .live k ≡ true)
+      (closed : Closure p q (l .live) (st .live))
+      (told : (k : ℕ) → k < q .slots → l .live k ≡ true → st .live k ≡ false → OnSlot k v)
+    where
+      abbrev next : Marks
+      next = marked v st l
 
-    unlabelled-labelling : Turned 0 (p .spares) (unlabelled p mates)
-    unlabelled-labelling =
-        record {
-          closed =
-              record {
-                covered = λ t s b h e m. clash h refl;
-                followed = λ s t b h e. absurd (omega (arith, eqb-true (mates s) 0 h));
-                tree-top = λ t h. clash h refl;
-                spare-top = λ s h m. absurd (m (eqb-true (mates s) 0 h));
-                on-tree = λ t h. clash h refl;
-                on-spare = λ s b h. rw (lt-ltb s (p .spares) b) (says .from-spare s b);
-                free = λ s b e. (eq-eqb (mates s) 0 e, rw (lt-ltb s (p .spares) b));
-              };
-          tree-own = λ t h u. absurd (omega arith);
-          spare-own = λ s h b. absurd (omega arith);
-        }
+      floor : (k : ℕ) → k < q .slots → st .live k ≡ false → v ≤ next .label k
+      floor k a h = elim (truth (l .live k)) [
+        | inl e ↦ omega (arith, label-new v st l k e h)
+        | inr e ↦ omega (arith, label-old v st l k e, low k a e)
+      ]
 
-    module _ (ranked : Ranked p) where
-      -- Of tree rank n and non-tree rank s the dearer one has its turn.
-      tree-first :
-          (n s : ℕ) (l : Labels) →
-          s < p .spares →
-          Turned n (suc s) l →
-          ltb n (p .trees) ≡ true →
-          leb (p .spareCost s) (p .treeCost n) ≡ true →
-          Turned (suc n) (suc s) (labelTree p mates n l)
-      tree-first n s l b i h k =
-          tree-turn n (suc s) l (ltb-true n (p .trees) h)
+      stays : (k a : ℕ) → (l .live k ≡ false) × (a ≤ l .label k) → (st .live k ≡ false) × (a ≤ next .label k)
+      stays k a h = (unlive (l .live) (st .live) k falls (h .0), omega (arith, h .1, label-old v st l k (h .0)))
+
+      relabelled : TreesHad n n′ next → SparesHad s s′ next → Turned n′ s′ next
+      relabelled tree spare =
           record {
-            trees = λ t q r. ranked .fall n t (omega arith) r;
-            spares = λ x q. omega (arith, leb-true (p .spareCost s) (p .treeCost n) k, ranked .rise x s (omega arith) b);
+            followed = λ k k′ a a′ h c. elim (truth (l .live k)) [
+              | inr e ↦
+                  let w = i .followed k k′ a a′ e c in
+                  let (x, y) = stays k′ (l .label k) w in
+                  (x, omega (arith, y, label-old v st l k e))
+              | inl e ↦
+                  let x = closed k k′ a a′ e h c in
+                  (x, omega (arith, label-new v st l k e h, floor k′ a′ x))
+            ];
+            top = λ k a h. elim (truth (l .live k)) [
+              | inr e ↦ rw (label-old v st l k e) (top-later p n s n′ s′ (l .label k) later fewer (i .top k a e))
+              | inl e ↦ rw (label-new v st l k e h) top
+            ];
+            says = λ k a h. elim (truth (l .live k)) [
+              | inr e ↦ rw (label-old v st l k e) (i .says k a e)
+              | inl e ↦ rw (label-new v st l k e h) (told k a e h)
+            ];
+            tree-own = λ t k a u b c. elim (truth (ltb t n)) [
+              | inl e ↦ stays k (p .treeCost t) (i .tree-own t k (ltb-true t n e) u b c)
+              | inr e ↦ tree t k a (ltb-false t n e) u b c
+            ];
+            spare-own = λ k a b. elim (truth (ltb (q .spareOf k) s)) [
+              | inl e ↦ spare k a b (ltb-true (q .spareOf k) s e)
+              | inr e ↦ stays k (p .spareCost (q .spareOf k)) (i .spare-own k a (ltb-false (q .spareOf k) s e))
+            ];
           }
-          i
 
-      spare-first :
-          (n s : ℕ) (l : Labels) →
-          s < p .spares →
-          Turned n (suc s) l →
-          (ltb n (p .trees) ≡ true → leb (p .spareCost s) (p .treeCost n) ≡ false) →
-          Turned n s (labelSpare p mates s l)
-      spare-first n s l b i h =
-          spare-turn n s l b
-          record {
-            trees = λ t q r. omega (arith, leb-false (p .spareCost s) (p .treeCost n) (h (lt-ltb n (p .trees) (omega arith))), ranked .fall n t q r);
-            spares = λ x c. ranked .rise x s (omega arith) b;
-          }
-          i
+  unchanged : (n s n′ s′ : ℕ) (l : Marks) → n ≤ n′ → s′ ≤ s → Turned n s l → TreesHad n n′ l → SparesHad s s′ l → Turned n′ s′ l
+  unchanged n s n′ s′ l later fewer i tree spare =
+      record {
+        followed = i .followed;
+        top = λ k a h. top-later p n s n′ s′ (l .label k) later fewer (i .top k a h);
+        says = i .says;
+        tree-own = λ t k a u b c. elim (truth (ltb t n)) [
+          | inl e ↦ i .tree-own t k (ltb-true t n e) u b c
+          | inr e ↦ tree t k a (ltb-false t n e) u b c
+        ];
+        spare-own = λ k a b. elim (truth (ltb (q .spareOf k) s)) [
+          | inl e ↦ spare k a b (ltb-true (q .spareOf k) s e)
+          | inr e ↦ i .spare-own k a (ltb-false (q .spareOf k) s e)
+        ];
+      }
 
-      from-ends :
-          (turns n k : ℕ) (l : Labels) →
-          n ≤ p .trees →
-          k ≤ p .spares →
-          n + turns ≡ p .trees + k →
-          Turned n k l →
-          Turned (p .trees) 0 (labelFrom p mates turns n k l)
-      unfolding labelFrom
-      from-ends zero n k l a b e i =
-          let q : n ≡ p .trees = omega arith in
-          let r : k ≡ 0 = omega arith in
-          rw (q, r) at i
-      from-ends (suc turns) n zero l a b e i =
-          from-ends turns (suc n) zero (labelTree p mates n l) (omega arith) b (omega arith)
-          (tree-turn n zero l (omega arith)
-          record { trees = λ t h c. ranked .fall n t (omega arith) c; spares = λ s h. absurd (omega arith) }
-          i)
-      from-ends (suc turns) n (suc s) l a b e i =
-          choose-both (Turned (p .trees) 0) _ _ _
-          (λ q.
-          from-ends turns (suc n) (suc s) (labelTree p mates n l) (ltb-true _ _ (and-first _ _ q)) b (omega arith)
-          (tree-first n s l b i (and-first _ _ q) (and-second (ltb n (p .trees)) _ q)))
-          (λ q.
-          from-ends turns n s (labelSpare p mates s l) a (omega arith) (omega arith)
-          (spare-first n s l b i (and-miss (ltb n (p .trees)) _ q)))
+  -- A tree rank with a slot is matched; one without is not.
+  slot-matched : (t : ℕ) → ltb (treeSlot q t) (q .slots) ≡ true → Unmatched p (matesIn q) t → ⊥
+  slot-matched t h u =
+      let k : ℕ = treeSlot q t in
+      let a : k < q .slots = ltb-true k (q .slots) h in
+      let same : q .treeOf k ≡ t = eqb-true (q .treeOf k) t (first-is (q .slots) (λ j. eqb (q .treeOf j) t) .hit a) in
+      u (q .spareOf k) (held .ranks k a) (rw same at (mates-at (q .slots) (q .spareOf) (q .treeOf) (held .distinct) k a))
 
-      pub labels-labelling : Turned (p .trees) 0 (labels p mates)
-      labels-labelling =
-          from-ends (p .trees + p .spares) 0 (p .spares) (unlabelled p mates) (omega arith) (omega arith) (omega arith) unlabelled-labelling
+  slot-unmatched : (t : ℕ) → ltb (treeSlot q t) (q .slots) ≡ false → Unmatched p (matesIn q) t
+  slot-unmatched t h s a e =
+      let (k, b, _, g) = mates-view (q .slots) (q .spareOf) (q .treeOf) s t e in
+      clash (some-of (q .slots) (λ j. eqb (q .treeOf j) t) k b (eq-eqb (q .treeOf k) t g)) h
+
+  -- The turn of tree rank n.
+  tree-turn : (n s : ℕ) (l : Marks) → n < p .trees → Top p (suc n) s (p .treeCost n) → Turned n s l → Turned (suc n) s (labelTree p q n l)
+  unfolding labelTree
+  tree-turn n s l b top i =
+      choose-both (Turned (suc n) s) _ _ _
+      (λ h. unchanged n s (suc n) s l (omega arith) (omega arith) i
+      (λ t k a c u d e. let same : t ≡ n = omega arith in absurd (slot-matched n h (rw same at u)))
+      (λ k a c d. absurd (omega arith)))
+      (λ h.
+      let v : ℕ = p .treeCost n in
+      let st : Search = search p q never (l .live) n in
+      let c : Closed p q n (begun (l .live) n) st = search-closed p q never (l .live) n in
+      let low : (k : ℕ) → k < q .slots → l .live k ≡ false → v ≤ l .label k = λ k a e. i .top k a e .trees n (omega arith) b in
+      let told =
+      search-tells p q (λ k. OnSlot k v) (λ k k′ a a′ o d. says .hands-on k k′ v a a′ o d) (l .live) n
+      (λ k a d. says .from-tree n k b (slot-unmatched n h) a d) in
+      relabelled n s (suc n) s (omega arith) (omega arith) l i v low top st (c .falls) (c .followed) told
+      (λ t k a d u e g.
+      let same : t ≡ n = omega arith in
+      let dead : st .live k ≡ false = c .tried k e (rw same at g) in
+      (dead, rw same (floor n s (suc n) s (omega arith) (omega arith) l i v low top st (c .falls) (c .followed) told k e dead)))
+      (λ k a d e. absurd (omega arith)))
+
+  -- The turn of non-tree rank s.
+  spare-turn : (n s : ℕ) (l : Marks) → Top p n s (p .spareCost s) → Turned n (suc s) l → Turned n s (labelSlot p q s (spareSlot q s) l)
+  unfolding labelSlot
+  spare-turn n s l top i =
+      choose-both (Turned n s) _ _ _
+      (λ h.
+      let a : k < q .slots = ltb-true k (q .slots) (and-first _ _ h) in
+      let e : l .live k ≡ true = and-second (ltb k (q .slots)) _ h in
+      let st : Search = search p q never (put (l .live) k false) (q .treeOf k) in
+      let c : Closed p q (q .treeOf k) (begun (put (l .live) k false) (q .treeOf k)) st = search-closed p q never (put (l .live) k false) (q .treeOf k) in
+      let own : OnSlot k v = rw (is a) at (says .from-own k a) in
+      let told : (j : ℕ) → j < q .slots → put (l .live) k false j ≡ true → st .live j ≡ false → OnSlot j v =
+      search-tells p q (λ j. OnSlot j v) (λ j j′ b b′ o d. says .hands-on j j′ v b b′ o d) (put (l .live) k false) (q .treeOf k)
+      (λ j b d. says .hands-on k j v a b own d) in
+      let falls : (j : ℕ) → st .live j ≡ true → l .live j ≡ true = λ j g. put-less (l .live) k j (c .falls j g) .1 in
+      let closed : Closure p q (l .live) (st .live) = λ j j′ b b′ g f d. elim (ℕ-discrete j k) [
+        | yes r ↦ c .tried j′ b′ (rw r at d)
+        | no r ↦ c .followed j j′ b b′ (put-other (l .live) k false j r ∙ g) f d
+      ] in
+      let tells : (j : ℕ) → j < q .slots → l .live j ≡ true → st .live j ≡ false → OnSlot j v = λ j b g f. elim (ℕ-discrete j k) [
+        | yes r ↦ rw r own
+        | no r ↦ told j b (put-other (l .live) k false j r ∙ g) f
+      ] in
+      let dead : st .live k ≡ false = unlive (put (l .live) k false) (st .live) k (c .falls) (put-same (l .live) k false) in
+      relabelled n (suc s) n s (omega arith) (omega arith) l i v low top st falls closed tells
+      (λ t j b d u f g. absurd (omega arith))
+      (λ j b d f.
+      let same : q .spareOf j ≡ s = omega arith in
+      let it : j ≡ k = found j b same in
+      (rw it dead, rw (same, it) (floor n (suc s) n s (omega arith) (omega arith) l i v low top st falls closed tells k a dead))))
+      (λ h.
+      unchanged n (suc s) n s l (omega arith) (omega arith) i
+      (λ t j b d u f g. absurd (omega arith))
+      (λ j b d f.
+      let same : q .spareOf j ≡ s = omega arith in
+      let it : j ≡ k = found j b same in
+      let gone : l .live j ≡ false = rw it (and-miss (ltb k (q .slots)) _ h (lt-ltb k (q .slots) (omega arith))) in
+      (gone, rw same (low j b gone))))
+    where
+      k : ℕ
+      k = spareSlot q s
+
+      v : ℕ
+      v = p .spareCost s
+
+      low : (j : ℕ) → j < q .slots → l .live j ≡ false → v ≤ l .label j
+      low j a e = i .top j a e .spares s (omega arith)
+
+      is : k < q .slots → q .spareOf k ≡ s
+      is a = eqb-true (q .spareOf k) s (first-is (q .slots) (λ j. eqb (q .spareOf j) s) .hit a)
+
+      found : (j : ℕ) → j < q .slots → q .spareOf j ≡ s → j ≡ k
+      found j b e = sym (rw e at (slot-found (q .slots) (q .spareOf) (held .distinct) j b))
+
+  none-labelled : Turned 0 (p .spares) (unlabelled q)
+  none-labelled =
+      record {
+        followed = λ k k′ a a′ h c. clash (lt-ltb k (q .slots) a) h;
+        top = λ k a h. clash (lt-ltb k (q .slots) a) h;
+        says = λ k a h. clash (lt-ltb k (q .slots) a) h;
+        tree-own = λ t k a u b c. absurd (omega arith);
+        spare-own = λ k a b. absurd (omega (arith, held .ranks k a));
+      }
+
+  module _ (ranked : Ranked p) where
+    -- Of tree rank n and non-tree rank s the dearer one has its turn.
+    from-ends :
+        (turns n s : ℕ) (l : Marks) → n ≤ p .trees → s ≤ p .spares → n + turns ≡ p .trees + s → Turned n s l
+        → Turned (p .trees) 0 (labelFrom p q turns n s l)
+    unfolding labelFrom
+    from-ends zero n s l a b e i =
+        let g : n ≡ p .trees = omega arith in
+        let r : s ≡ 0 = omega arith in
+        rw (g, r) at i
+    from-ends (suc turns) n zero l a b e i =
+        from-ends turns (suc n) zero (labelTree p q n l) (omega arith) b (omega arith)
+        (tree-turn n zero l (omega arith)
+        record { trees = λ t h c. ranked .fall n t (omega arith) c; spares = λ x h. absurd (omega arith) }
+        i)
+    from-ends (suc turns) n (suc s) l a b e i =
+        choose-both (Turned (p .trees) 0) _ _ _
+        (λ h.
+        let c : n < p .trees = ltb-true _ _ (and-first _ _ h) in
+        from-ends turns (suc n) (suc s) (labelTree p q n l) c b (omega arith)
+        (tree-turn n (suc s) l c
+        record {
+          trees = λ t g r. ranked .fall n t (omega arith) r;
+          spares = λ x g. omega (arith, leb-true (p .spareCost s) (p .treeCost n) (and-second (ltb n (p .trees)) _ h), ranked .rise x s (omega arith) b);
+        }
+        i))
+        (λ h.
+        from-ends turns n s (labelSlot p q s (spareSlot q s) l) a (omega arith) (omega arith)
+        (spare-turn n s l
+        record {
+          trees = λ t g r.
+              let dearer = leb-false (p .spareCost s) (p .treeCost n) (and-miss (ltb n (p .trees)) _ h (lt-ltb n (p .trees) (omega arith))) in
+              omega (arith, dearer, ranked .fall n t g r);
+          spares = λ x c. ranked .rise x s (omega arith) b;
+        }
+        i))
+
+    pub marks-labelling : Turned (p .trees) 0 (slotMarks p q)
+    marks-labelling =
+        from-ends (p .trees + p .spares) 0 (p .spares) (unlabelled q) (omega arith) (omega arith) (omega arith) none-labelled

@@ -8,6 +8,7 @@ pub mod Matched
 pub mod Distance
 pub mod Reindex
 pub mod Duality
+pub mod SlotLaws
 pub mod SearchLaws
 pub mod Invariant
 pub mod Augment

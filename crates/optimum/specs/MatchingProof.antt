@@ -1,23 +1,27 @@
 -- The matching of the model is valid, and costs exist that are slack with it: it is a best one. Its running weight is what
--- its pairs add up to, at the start and after each chain.
--- Assumes nothing.
+-- its pairs add up to, at the start and after each chain. It has no more slots than tree ranks had their turn. Assumes nothing.
 use Prim.Native.Nat.{ℕ, zero, suc, _≤_, _<_}
 use native.Mathlib.Omega.{arith}
 use mathlib.Core.Path.{_≡_, refl, ap, sym}
 use mathlib.Core.Logic.{_⊎_, inl, inr}
-use mathlib.Core.Bool.{true}
+use mathlib.Core.Bool.{Bool, true, false}
 use lib.IntN.{pos}
+use borrow.Author.Tests.{le-ltb}
+use Rattle.loops.specs.TestLaws.{clash, choose-both}
+use Rattle.loops.specs.PutLaws.{put-split}
 use Rattle.loops.specs.SumLaws.{sum-zero}
-use Rattle.loops.specs.TestLaws.{clash}
-use Rattle.optimum.specs.Search.{Problem, Mates, unmatched, built, matching}
+use Rattle.optimum.specs.Search.{Problem, Mates, matesBelow, matesIn, Search, search, Progress, cheapestOf, goalOf, worth}
+use Rattle.optimum.specs.Search.{turned, givenUp, augmentBy, augment, unmatched, built, matching}
 use Rattle.optimum.specs.Slackness.{Ranked, Valid, RankCosts, Slack, Unmatched, pairWeight, rankWeight}
 use Rattle.graph.specs.Integers.{pos-le}
 use Rattle.optimum.specs.Matched.{Matched, matched-view}
-use Rattle.optimum.specs.Invariant.{Pairs, Done}
+use Rattle.optimum.specs.Invariant.{Pairs, pairs-valid, Done}
+use Rattle.optimum.specs.SlotLaws.{HeldSlots}
+use Rattle.optimum.specs.SearchLaws.{search-closed}
 use Rattle.optimum.specs.Augment.{Invariant, augment-keeps}
 
 first-invariant : (p : Problem) → Invariant p 0 unmatched (p .spareCost)
-unfolding pairWeight
+unfolding pairWeight matesBelow
 first-invariant p =
     record {
       pairs =
@@ -33,9 +37,8 @@ first-invariant p =
           };
       weighs = sym (sum-zero (p .spares) (λ s. pairWeight p s 0) (λ s l. refl));
       done = λ t l. absurd (omega arith);
-      dead = λ x q. clash q refl;
-      high-spare = λ s t l q m a b. absurd (m refl);
-      high-tree = λ x s t l q c a b. clash q refl;
+      held = record { distinct = λ k k′ a b e. absurd (omega arith); ranks = λ k a. absurd (omega arith) };
+      high = λ k t a h b c. absurd (omega arith);
     }
 
 -- The invariant holds at the start and after every tree rank, and so after every chain.
@@ -48,13 +51,50 @@ kept p r (suc t) l =
 
 module _ (p : Problem) (r : Ranked p) (t : ℕ) (l : t ≤ p .trees) where
   -- The running weight is the matching's, added up afresh.
-  pub weight-kept : built p t .weight ≡ rankWeight p (built p t .mates)
+  pub weight-kept : built p t .weight ≡ rankWeight p (matesIn (built p t .pairs))
   weight-kept = kept p r t l .1 .weighs
 
-  pub built-valid : Valid p (built p t .mates)
-  built-valid =
-      let g = kept p r t l .1 .pairs in
-      record { below = λ s x k e. omega (arith, g .below s x k e); covers = g .covers; falls = g .falls; once = g .once }
+  pub built-held : HeldSlots p (built p t .pairs)
+  built-held = kept p r t l .1 .held
+
+  pub built-valid : Valid p (matesIn (built p t .pairs))
+  built-valid = pairs-valid (kept p r t l .1 .pairs) l
+
+-- Of any problem: a tree rank adds one slot at most, and none but the slots there are is live.
+one-more :
+    (P : Progress → Type 0) (p : Problem) (t : ℕ) (pr : Progress) → ((goal : ℕ) (st : Search) → P (turned p t pr goal st))
+    → ((ends : ℕ → Bool) → P (givenUp pr (search p (pr .pairs) ends (pr .live) t))) → P pr → P (augment p t pr)
+unfolding augment
+one-more P p t pr met failed same =
+    let cheapest : ℕ = cheapestOf p (matesIn (pr .pairs)) in
+    let st : Search = search p (pr .pairs) (λ x. p .covers x cheapest) (pr .live) t in
+    let goal : ℕ = goalOf p (matesIn (pr .pairs)) (st .seen) in
+    choose-both P (worth p t cheapest) (λ _. augmentBy p t pr st) (λ _. pr)
+    (λ _.
+    choose-both P (worth p t goal) (λ _. turned p t pr goal st) (λ _. givenUp pr st)
+    (λ _. met goal st) (λ _. failed (λ x. p .covers x cheapest)))
+    (λ _. same)
+
+pub built-few : (p : Problem) (t : ℕ) → built p t .pairs .slots ≤ t
+unfolding built
+built-few p zero = omega arith
+built-few p (suc t) =
+    let before = built-few p t in
+    one-more (λ pr. pr .pairs .slots ≤ suc t) p t (built p t) (λ goal st. omega arith) (λ ends. omega arith) (omega arith)
+
+pub built-live : (p : Problem) (t k : ℕ) → built p t .live k ≡ true → k < built p t .pairs .slots
+unfolding built
+built-live p zero k h = clash h refl
+built-live p (suc t) k h =
+    let pr : Progress = built p t in
+    one-more (λ next. next .live k ≡ true → k < next .pairs .slots) p t pr
+    (λ goal st i. elim (put-split (pr .live) (pr .pairs .slots) k i) [
+      | inl e ↦ omega arith
+      | inr e ↦ omega (arith, built-live p t k e)
+    ])
+    (λ ends i. built-live p t k (search-closed p (pr .pairs) ends (pr .live) t .falls k i))
+    (built-live p t k)
+    h
 
 -- A matched tree rank costs as much as its mate; an unmatched one keeps its cost.
 abbrev tree-cost : (p : Problem) (mates : Mates) (d : ℕ → ℕ) (t : ℕ) → Matched p mates t ⊎ Unmatched p mates t → ℕ
@@ -96,7 +136,16 @@ module _ (p : Problem) (mates : Mates) (d : ℕ → ℕ) (g : Pairs p (p .trees)
       free t k u (inl m) = absurd (u (m .0) (m .1) (m .2))
       free t k u (inr _) = refl
 
-pub matching-slack : (p : Problem) → Ranked p → (d : RankCosts) × Slack p (matching p) d
+pub matching-slack : (p : Problem) → Ranked p → (d : RankCosts) × Slack p (matesIn (matching p)) d
 matching-slack p r =
     let (d, inv) = kept p r (p .trees) (omega arith) in
-    (rank-costs p (matching p) d, pairs-slack p (matching p) d (inv .pairs) (inv .done))
+    (rank-costs p (matesIn (matching p)) d, pairs-slack p (matesIn (matching p)) d (inv .pairs) (inv .done))
+
+-- Without a non-tree rank nothing is matched.
+unworthy : (p : Problem) → p .spares ≡ 0 → (t goal : ℕ) → worth p t goal ≡ false
+unworthy p e t goal = rw (e, le-ltb goal 0 (omega arith))
+
+pub nothing-built : (p : Problem) → p .spares ≡ 0 → (t : ℕ) → built p t ≡ unmatched
+unfolding built augment
+nothing-built p e zero = refl
+nothing-built p e (suc t) = rw (nothing-built p e t, unworthy p e t (cheapestOf p (matesIn (unmatched .pairs))))

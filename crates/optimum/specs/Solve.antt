@@ -3,22 +3,31 @@
 use Prim.Native.Nat.{ℕ, zero, suc}
 use mathlib.Core.Bool.{_&&_}
 use mathlib.Core.List.{List, [], _∷_}
-use lib.Dec.{ltb}
+use lib.Dec.{leb, ltb}
 use lib.ListN.{length, getD}
-use Rattle.loops.specs.Loop.{scan, put, gather, tabulate}
-use Rattle.graph.specs.Graph.{Graph, EdgeSet}
-use Rattle.graph.specs.Rank.{treeRanks, spareRanks}
+use Rattle.loops.specs.Loop.{scan, put, first, gather, tabulate}
+use Rattle.graph.specs.Graph.{Graph, EdgeSet, spareOf}
+use Rattle.graph.specs.Rank.{sorted, members, treeRanks}
 use Rattle.graph.specs.Paths.{Rooted, rooted, coversRank}
 use Rattle.optimum.specs.Optimum.{Pair, Answer}
-use Rattle.optimum.specs.Search.{Problem, Mates, built, matching}
-use Rattle.optimum.specs.Lowest.{Labels, labels}
+use Rattle.optimum.specs.Search.{Problem, Slots, built, matching}
+use Rattle.optimum.specs.Lowest.{slotMarks}
+
+-- The non-tree edges that cost less than a tree edge that they cover. The others need no rank: they keep their cost.
+abbrev pub lowOf : Graph → EdgeSet → (ℕ → ℕ) → EdgeSet
+lowOf g tr c e =
+    let ts : List ℕ = treeRanks g tr c in
+    spareOf g tr e && ltb (first (length ts) (λ t. coversRank g (rooted g ts) e t && ltb (c e) (c (getD ts t 0)))) (length ts)
+
+abbrev pub lowRanks : Graph → EdgeSet → (ℕ → ℕ) → List ℕ
+lowRanks g tr c = sorted (λ x y. leb (c x) (c y)) (members (g .edges) (lowOf g tr c))
 
 -- The edges by rank. Related are a tree edge and a cheaper non-tree edge that covers it. One that costs no less needs no
 -- care: the answer raises no tree edge and lowers no non-tree edge (RankCriterion.antt).
 abbrev pub problem : Graph → EdgeSet → (ℕ → ℕ) → Problem
 problem g tr c =
     let ts : List ℕ = treeRanks g tr c in
-    let ss : List ℕ = spareRanks g tr c in
+    let ss : List ℕ = lowRanks g tr c in
     let r : Rooted = rooted g ts in
     record {
       trees = length ts;
@@ -28,21 +37,14 @@ problem g tr c =
       spareCost = λ s. c (getD ss s 0);
     }
 
--- The labels by edge: each rank's label put at its edge.
-abbrev pub place : List ℕ → (ℕ → ℕ) → (ℕ → ℕ) → ℕ → ℕ
-place ranks label f = scan (λ k f. put f (getD ranks k 0) (label k)) (length ranks) 0 f
-
--- The new costs: both put over the old ones, so that an edge without a rank keeps its cost.
-abbrev pub newCosts : (ℕ → ℕ) → List ℕ → List ℕ → Labels → ℕ → ℕ
-newCosts c ts ss l = place ss (l .spareLabel) (place ts (l .treeLabel) c)
+-- The new costs: the label of each pair put at its two edges, over the old costs: an edge in no pair keeps its cost.
+abbrev pub newCosts : (ℕ → ℕ) → List ℕ → List ℕ → Slots → (ℕ → ℕ) → ℕ → ℕ
+newCosts c ts ss q label =
+    scan (λ k f. put (put f (getD ts (q .treeOf k) 0) (label k)) (getD ss (q .spareOf k) 0) (label k)) (q .slots) 0 c
 
 -- The mate of each tree edge: suc e for the non-tree edge e, 0 for none.
-unfoldable pub join : List ℕ → ℕ → ℕ → (ℕ → ℕ) → ℕ → ℕ
-join ts e zero f = f
-join ts e (suc t) f = put f (getD ts t 0) (suc e)
-
-abbrev pub partners : List ℕ → List ℕ → Mates → ℕ → ℕ
-partners ts ss mates = scan (λ s f. join ts (getD ss s 0) (mates s) f) (length ss) 0 (λ _. 0)
+abbrev pub partners : List ℕ → List ℕ → Slots → ℕ → ℕ
+partners ts ss q = scan (λ k f. put f (getD ts (q .treeOf k) 0) (suc (getD ss (q .spareOf k) 0))) (q .slots) 0 (λ _. 0)
 
 unfoldable pub pairAt : ℕ → ℕ → List Pair
 pairAt t zero = []
@@ -51,13 +53,11 @@ pairAt t (suc s) = record { tree = t; spare = s } ∷ []
 unfoldable pub solve : Graph → EdgeSet → (ℕ → ℕ) → Answer
 solve g tr c =
     let ts : List ℕ = treeRanks g tr c in
-    let ss : List ℕ = spareRanks g tr c in
+    let ss : List ℕ = lowRanks g tr c in
     let p : Problem = problem g tr c in
-    let mates : Mates = matching p in
-    let new : (ℕ → ℕ) = newCosts c ts ss (labels p mates) in
-    let mate : (ℕ → ℕ) = partners ts ss mates in
+    let q : Slots = matching p in
     record {
       steps = built p (p .trees) .weight;
-      costs = tabulate (g .edges) new;
-      pairs = gather (g .edges) (λ e. pairAt e (mate e));
+      costs = tabulate (g .edges) (newCosts c ts ss q (slotMarks p q .label));
+      pairs = gather (g .edges) (λ e. pairAt e (partners ts ss q e));
     }

@@ -11,6 +11,7 @@ use lib.Dec.{eqb}
 use lib.ListN.{length, getD, set, drop, length-drop}
 use lib.Seq.{drop-cons, drop-drop}
 use borrow.Author.Tests.{eq-eqb, ne-eqb, lt-leb, lt-ltb, le-ltb}
+use Rattle.loops.specs.PutLaws.{set-put}
 use Rattle.limits.specs.Limits.{maxNumber, changeBytes}
 use Rattle.loops.specs.Below.{choose}
 use Rattle.loops.specs.Loop.{put}
@@ -21,7 +22,6 @@ use Rattle.leb128.specs.Positions.{readAt, located-value, located-refused}
 use Rattle.leb128.specs.declared.Number.the-variants as Read
 use Rattle.sheet.specs.Reading as Model
 use Rattle.sheet.specs.Reading.{costsAt, withCode, withLink, entryOf}
-use Rattle.sheet_read.specs.ApplyLaws.{set-put}
 use Rattle.replay.specs.Log as Log
 use Rattle.replay.specs.Log.{stepped, heard, replayed}
 use Rattle.replay.specs.LogReading.{isPacket, readLog}

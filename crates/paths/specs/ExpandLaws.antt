@@ -10,6 +10,7 @@ use lib.Dec.{ltb, eqb}
 use lib.ListN.{length, getD, take}
 use lib.Seq.{length-take-le, getD-take}
 use borrow.Author.Tests.{ltb-true, lt-ltb, le-ltb}
+use Rattle.loops.specs.ScanLaws.{scan-same}
 use Rattle.loops.specs.Loop.{scan, put, first}
 use Rattle.loops.specs.PutLaws.{put-same, put-other}
 use Rattle.loops.specs.TestLaws.{and-first}
@@ -24,23 +25,6 @@ use Rattle.paths.specs.WordLaws.{lowest-below, lowest-set, lowest-before
 -- ---- turns at some numbers only
 
 module _ {A : Type 0} where
-  -- Turns that do the same where P holds, and keep P.
-  pub scan-alike :
-      (f h : ℕ → A → A) (P : A → Type 0) (turns i : ℕ) (st : A) → P st
-      → ((k : ℕ) (s : A) → i ≤ k → k < i + turns → P s → (f k s ≡ h k s) × P (h k s))
-      → scan f turns i st ≡ scan h turns i st
-  unfolding scan
-  scan-alike f h P zero i st start alike = refl
-  scan-alike f h P (suc turns) i st start alike =
-      let turn : (f i st ≡ h i st) × P (h i st) = alike i st (omega arith) (omega arith) start in
-      rw (turn .0) (scan-alike f h P turns (suc i) (h i st) (turn .1) (λ k s l m. alike k s (omega arith) (omega arith)))
-
-  -- Turns that do the same.
-  scan-same :
-      (f h : ℕ → A → A) (turns i : ℕ) (st : A) → ((k : ℕ) (s : A) → i ≤ k → k < i + turns → f k s ≡ h k s)
-      → scan f turns i st ≡ scan h turns i st
-  scan-same f h turns i st same = scan-alike f h (λ _. Unit) turns i st tt (λ k s l m _. (same k s l m, tt))
-
   module _ (body : ℕ → A → A) where
     -- Past the last number of which p holds, nothing is done.
     only-none :

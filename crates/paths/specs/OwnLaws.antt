@@ -8,13 +8,12 @@ use mathlib.Core.List.{List}
 use lib.Dec.{eqb}
 use lib.ListN.{getD}
 use Rattle.loops.specs.PutLaws.{put-same, put-other, put-kept}
-use Rattle.loops.specs.ScanLaws.{scan-keeps}
+use Rattle.loops.specs.ScanLaws.{scan-keeps, scan-alike}
 use Rattle.loops.specs.TestLaws.{cond-both}
 use Rattle.bits.specs.Bit.{bit}
 use Rattle.graph.specs.Paths.{Rooted, attach}
 use Rattle.paths.specs.Arrays.{triedRank, only, triedWord}
 use Rattle.paths.specs.GrowLaws.{tried-both, tried-keeps}
-use Rattle.paths.specs.ExpandLaws.{scan-alike}
 
 -- A turn left out that would do nothing.
 left-out : {A : Type 0} (a m : Bool) (x y : A) → (m ≡ true → x ≡ y) → cond (a && not m) x y ≡ cond a x y

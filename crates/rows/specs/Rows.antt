@@ -5,7 +5,7 @@ use mathlib.Core.Path.{_≡_, refl}
 use mathlib.Core.List.{List, [], _∷_, map, flatMap}
 use lib.Dec.{eqb}
 use Rattle.loops.specs.Below.{choose, allBelow}
-use Rattle.loops.specs.Loop.{scan, first, last, pick, gather}
+use Rattle.loops.specs.Loop.{scan, first, last, gather}
 use Rattle.number.specs.Number.{encode, extend, decode}
 use Rattle.frame.specs.Questions.{front, divideUpTo, question2, question3, question4, question5, question6, refusal, jobOf}
 use Rattle.frame.specs.Meaning.{linksOf}
@@ -13,9 +13,9 @@ use Rattle.frame.specs.AnswerMeaning.{answerFrame}
 use Rattle.frame.specs.Answers.{answerOf}
 use Rattle.graph.specs.Rank.{insert, sorted}
 use Rattle.graph.specs.Paths.{grow, expandAll, judge}
-use Rattle.optimum.specs.Search.{follow, trySpares, tryTree, augment, built}
-use Rattle.optimum.specs.Lowest.{labelTree, mateSearch, labelSpare, labelFrom}
-use Rattle.optimum.specs.Solve.{join, pairAt, solve}
+use Rattle.optimum.specs.Search.{matesBelow, tryTree, turn, augment, built}
+use Rattle.optimum.specs.Lowest.{labelTree, labelSlot, labelFrom}
+use Rattle.optimum.specs.Solve.{pairAt, solve}
 use mathlib.Core.Bool.{xor}
 
 pub data Result : Type 0 where
@@ -50,6 +50,6 @@ rows =
 
 pub rows-hold : map (λ (r : Row). resultOf (r .job)) rows ≡ map (λ (r : Row). r .result) rows
 unfolding linksOf question2 question3 question4 question5 question6 flatMap encode extend decode front divideUpTo scan allBelow
-    first last pick gather insert sorted grow expandAll judge follow trySpares tryTree augment built labelTree mateSearch labelSpare labelFrom
-    join pairAt solve xor
+    first last gather insert sorted grow expandAll judge matesBelow tryTree turn augment built labelTree labelSlot labelFrom
+    pairAt solve xor
 rows-hold = refl

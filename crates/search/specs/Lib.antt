@@ -1,6 +1,6 @@
--- The search in arrays: what its state says in the words of the model, and the laws that its steps rest on.
-pub mod State
-pub mod Growth
-pub mod SpareSteps
+-- The exploration in arrays: what they say in the words of the model, the steps of the code, and the law for its callers.
+pub mod Board
+pub mod SlotSteps
 pub mod TreeSteps
 pub mod ExploreSteps
+pub mod BoardLaws

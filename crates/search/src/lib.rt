@@ -1,97 +1,63 @@
-// The search for alternating paths over bit rows (specs/State.antt; the model is in optimum's specs/Search.antt).
-use ids::SpareRank;
+// The exploration of alternating paths over the pairs so far (specs/Board.antt; the model is in optimum's specs/Search.antt).
+// `words` holds at 0..63 for each tree rank the slots over it, at 64 the tree ranks seen, at 65 those at which an
+// exploration ends. `links` holds at 0..63 the tree rank of each slot, at 64 + u the way back of tree rank u: 64 times the
+// slot, and the tree rank before. The live slots go by value: those that are left are handed back.
+use ids::Slot;
 use ids::TreeRank;
 ghost use mathlib.Core.Path.{_≡_};
-ghost use mathlib.Core.Bool.{true, false, _&&_};
+ghost use mathlib.Core.Bool.{true};
 ghost use Prim.Native.Nat.{_<_};
-ghost use lib.Dec.{ltb};
 ghost use Rattle.bits.specs.Bit.{bit};
-ghost use Rattle.sets.specs.Sets.{inRow, member};
-ghost use Rattle.search.specs.State.{Ready, TreeTried, SpareTried, Swept};
+ghost use Rattle.search.specs.Board.{Ready, TreeTried, SlotTried, Explored};
 
-// Does the goal cover tree rank `t`? There is no goal if it is 256.
-fn goal_covers(goal: SpareRank, t: TreeRank, rows: &[u64; 256]) -> bool
-    requires { ⌜ t .0 < 64 ⌝ }
-    ensures { λ r. ⌜ r ≡ (ltb (goal .0) 256 && inRow (now (rows .entry)) (t .0) (goal .0)) ⌝ }
+// Tree rank `t` tries the live slots over it, the last first.
+fn try_tree(t: TreeRank, live: u64, words: &mut [u64; 66], links: &mut [u32; 128]) -> u64
+    requires { ⌜ Ready (t .0) (now words) (now links) ⌝ }
+    ensures { λ r. ⌜ TreeTried (t .0) live (now (words .entry)) (now (links .entry)) (now (words .exit)) (now (links .exit)) r ⌝ }
 {
-    if goal.0 < 256 {
-        return set_rows::contains_in_row(rows, t.0, goal.0);
-    }
-    false
-}
-
-// Tree rank `t`, which was not seen, is matched to the goal, if that covers it. Else it tries the live spare ranks that
-// cover it, the dearest first, until one leads to the goal.
-pub fn try_tree(
-    t: TreeRank,
-    goal: SpareRank,
-    rows: &[u64; 256],
-    mates: &mut [u32; 256],
-    tree_seen: &mut u64,
-    live: &mut [u64; 4],
-) -> bool
-    requires { ⌜ (bit (now «tree_seen») (t .0) ≡ false) × Ready (t .0) (now mates) (now live) ⌝ }
-    ensures { λ r. ⌜ TreeTried (t .0) (goal .0) (now (rows .entry)) (now (mates .entry)) (now («tree_seen» .entry)) (now (live .entry)) (now (mates .exit))
-        (now («tree_seen» .exit)) (now (live .exit)) r ⌝ }
-{
-    if goal_covers(goal, t, rows) {
-        mates[goal.0 as usize] = t.0 + 1;
-        return true;
-    }
-    *tree_seen = bits::with(*tree_seen, t.0);
+    let mut left = live;
     loop {
-        let s = set_rows::next(rows, t.0, live);
-        if s == 256 {
-            return false;
+        let over = bits::both(words[t.0 as usize], left);
+        if over == 0 {
+            return left;
         }
-        if try_spare(t, SpareRank(s), goal, rows, mates, tree_seen, live) {
-            return true;
-        }
+        left = try_slot(t, Slot(bits::highest(over)), left, words, links);
     }
 }
 
-// Tree rank `t` tries the live spare rank `s`: its mate, if it has one, may lead on.
-fn try_spare(
-    t: TreeRank,
-    s: SpareRank,
-    goal: SpareRank,
-    rows: &[u64; 256],
-    mates: &mut [u32; 256],
-    tree_seen: &mut u64,
-    live: &mut [u64; 4],
-) -> bool
-    requires { ⌜ (s .0 < 256) × (member (now live) (s .0) ≡ true) × Ready (t .0) (now mates) (now live) ⌝ }
-    ensures { λ r. ⌜ SpareTried (t .0) (s .0) (goal .0) (now (rows .entry)) (now (mates .entry)) (now («tree_seen» .entry)) (now (live .entry))
-        (now (mates .exit)) (now («tree_seen» .exit)) (now (live .exit)) r ⌝ }
+// The live slot `k`, tried from tree rank `t`, leads to its own tree rank, and on from there unless the exploration ends.
+fn try_slot(t: TreeRank, k: Slot, live: u64, words: &mut [u64; 66], links: &mut [u32; 128]) -> u64
+    requires { ⌜ (k .0 < 64) × (bit live (k .0) ≡ true) × Ready (t .0) (now words) (now links) ⌝ }
+    ensures { λ r. ⌜ SlotTried (t .0) (k .0) live (now (words .entry)) (now (links .entry)) (now (words .exit)) (now (links .exit)) r ⌝ }
 {
-    sets::remove(live, s.0);
-    let k = s.0 as usize;
-    let mate = mates[k];
-    if mate == 0 {
-        return false;
+    let u = links[k.0 as usize];
+    links[(64 + u) as usize] = 64 * k.0 + t.0;
+    words[64] = bits::with(words[64], u);
+    if bits::has(words[65], u) {
+        return 0;
     }
-    if bits::has(*tree_seen, mate - 1) {
-        return false;
+    let left = bits::without(live, k.0);
+    if bits::both(words[u as usize], left) == 0 {
+        return left;
     }
-    mates[k] = t.0 + 1;
-    if try_tree(TreeRank(mate - 1), goal, rows, mates, tree_seen, live) {
-        return true;
-    }
-    mates[k] = mate;
-    false
+    try_tree(TreeRank(u), left, words, links)
 }
 
-// Tree rank `t`, which was not seen, explores: a search without a goal.
+// An exploration from tree rank `t` over the live slots, which ends at the first of the tree ranks `ends` that it comes to.
 pub fn explore(
     t: TreeRank,
-    rows: &[u64; 256],
-    mates: &mut [u32; 256],
-    tree_seen: &mut u64,
-    live: &mut [u64; 4],
-)
-    requires { ⌜ (bit (now «tree_seen») (t .0) ≡ false) × Ready (t .0) (now mates) (now live) ⌝ }
-    ensures { λ r. ⌜ Swept (t .0) (now (rows .entry)) (now (mates .entry)) (now («tree_seen» .entry)) (now (live .entry)) (now (mates .exit))
-        (now («tree_seen» .exit)) (now (live .exit)) ⌝ }
+    live: u64,
+    ends: u64,
+    words: &mut [u64; 66],
+    links: &mut [u32; 128],
+) -> u64
+    requires { ⌜ Ready (t .0) (now words) (now links) ⌝ }
+    ensures { λ r. ⌜ Explored (t .0) live ends (now (words .entry)) (now (links .entry)) (now (words .exit)) (now (links .exit)) r ⌝ }
 {
-    try_tree(t, SpareRank(256), rows, mates, tree_seen, live);
+    words[64] = bits::with(0, t.0);
+    words[65] = ends;
+    if bits::has(ends, t.0) {
+        return 0;
+    }
+    try_tree(t, live, words, links)
 }

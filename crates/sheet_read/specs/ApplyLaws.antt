@@ -9,12 +9,11 @@ use mathlib.Core.List.{List, []}
 use mathlib.Core.Option.{Option, some, none}
 use lib.Dec.{eqb}
 use lib.IntN.{ℤ, pos, _+ℤ_}
-use lib.ListN.{length, getD, set, drop, length-drop, drop-of-length-le}
+use lib.ListN.{length, set, drop, length-drop, drop-of-length-le}
 use lib.Seq.{drop-drop, drop-cons, sets, take-all, getD-set-same, getD-set-other}
 use borrow.Author.Tests.{eq-eqb, ne-eqb, le-leb, lt-leb, lt-ltb, le-ltb}
 use Rattle.limits.specs.Limits.{maxNumber, changeBytes}
 use Rattle.loops.specs.Loop.{put}
-use Rattle.loops.specs.PutLaws.{put-same, put-other}
 use Rattle.loops.specs.TestLaws.{clash}
 use Rattle.number.specs.Number.{Bytes, decode}
 use Rattle.number.specs.Number.Decoded.{number}
@@ -130,17 +129,6 @@ outside-none : (o : Option ℕ) → Outside ≡ inRange o → o ≡ none
 unfolding inRange
 outside-none (some u) q = let z : _≡_ {A = ℕ} 0 1 = cc in absurd (omega arith)
 outside-none none q = refl
-
--- A cost stored is a cost put.
-pub set-put : (xs : List ℕ) (i v : ℕ) → i < length xs → costsAt (set xs i v) ≡ put (costsAt xs) i v
-set-put xs i v l k e = at e k
-  where
-    at : (e : ℕ) → getD (set xs i v) e 0 ≡ put (costsAt xs) i v e
-    at e =
-        elim (ℕ-discrete e i) [
-          | yes q ↦ rw (q, put-same (costsAt xs) i v) (getD-set-same xs i v 0 l)
-          | no q ↦ rw (put-other (costsAt xs) i v e q) (getD-set-other xs i e v 0 q)
-        ]
 
 pub in-range-set : (m : ℕ) (xs : List ℕ) (i v : ℕ) → i < length xs → v ≤ maxNumber → InRange m (costsAt xs) → InRange m (costsAt (set xs i v))
 in-range-set m xs i v l low h e k =

@@ -1,3 +1,3 @@
--- What the functions from ranks back to edges ask, and the laws of their loops.
+-- What going from slots back to edges asks, and the laws of its loop and of what it leaves.
 pub mod Asked
 pub mod PlaceLaws

@@ -1,4 +1,4 @@
 -- The answer to a job in arrays, and laws about it.
 pub mod Solving
-pub mod CostLaws
+pub mod SettleLaws
 pub mod SolveLaws

@@ -5,7 +5,7 @@ use native.Mathlib.Decide.{ℕ-discrete}
 use native.Mathlib.Omega.{arith}
 use lib.ListN.{getD}
 use Rattle.graph.specs.Rank.{costAt}
-use Rattle.covering.specs.RowLaws.{limit-is}
+use Rattle.covering.specs.ColumnLaws.{limit-is}
 use Rattle.covering.proofs.dearer.Statement.{statement}
 use Rattle.covering.proofs.dearer.Tie as tie
 

@@ -1,54 +1,58 @@
 -- `matching::augment` meets its contract. Assumes nothing.
 use native.Mathlib.Omega.{arith}
 use borrow.Author.Needs.{needs}
-use Rattle.matching.specs.Progress.{Seekable}
-use Rattle.matching.specs.AugmentSteps.{Compared, augmented-none, cheapest-seekable, augmented-met, goal-seekable, augmented-on, augmented-off}
+use Rattle.matching.specs.Tables.{tables}
+use Rattle.matching.specs.AugmentSteps.{Compared, low-within, augmented-none, explore-ready, low-below, augmented-off, pair-able, augmented-on}
 use Rattle.matching.proofs.augment.Statement.{statement}
 use Rattle.matching.proofs.augment.Tie as tie
 
 -- ---- the steps, from the last back to the start
 
-abbrev seek-of : tie.After-goal-cost2 → tie.After-seek
-seek-of g = g .before .before .before .before .before
+abbrev explore-of : tie.After-goal-cost2 → tie.After-explore
+explore-of g = g .before .before .before .before
 
-abbrev open-of : tie.After-seek → tie.Else1
-open-of d = d .before .before .before .before .before .before .before
+abbrev open-of : tie.After-explore → tie.Else1
+open-of d = d .before .before .before .before
 
 abbrev start-of : tie.After-goal-cost → tie.Start
-start-of f = f .before .before .before .before
+start-of f = f .before .before .before .before .before
 
--- ---- what they have found
+abbrev paired-of : tie.After-pair → tie.Else2
+paired-of c = c .before .before .before .before .before .before
 
--- the cheapest unmatched rank, and the costs
+abbrev entry-of : tie.After-pair → tie.Start
+entry-of c = start-of (open-of (explore-of (paired-of c .before)) .before)
+
+-- ---- what they have found: the cheapest spare rank in no pair, and the costs
+
 compared :
     (f : tie.After-goal-cost) →
     let a = start-of f .args in
-    Compared (a .t .0) (a .weight) (a .spares) (a .cost .now) (a .ts .now) (a .ss .now) (a .rows .now) (a .mates .now) (a .taken .now) (a .tree-dead .now)
-    (a .live .now) (f .before .before .lowest-free .result) (f .before .cost-at .result) (f .goal-cost .result)
+    Compared (a .t .0) (a .at .slots) (a .at .low) (a .at .live) (a .at .weight) (a .trees) (a .spares) (a .cost .now) (a .ts .now) (a .ss .now)
+    (tables (a .cols .now) (a .words .now) (a .links .now) (a .spare .now) (a .slot .now)) (f .before .before .before .before .below .result)
+    (f .before .before .first-over .result) (f .before .cost-at .result) (f .goal-cost .result)
 compared f =
     record {
       able = start-of f .pre;
-      lowest = f .before .before .lowest-free .ensures;
+      whole = f .before .before .before .before .below .ensures;
+      low-is = f .before .before .first-over .ensures;
       high-is = f .before .cost-at .ensures;
       high-small = omega arith;
       least-is = f .goal-cost .ensures;
     }
 
--- the cheapest can be sought
-cheapest-able :
-    (p : tie.Else1) →
-    let f = p .before in
-    let a = start-of f .args in
-    Seekable (a .t .0) (f .before .before .lowest-free .result) (a .mates .now) (a .taken .now) (a .tree-dead .now) (a .live .now)
-cheapest-able p = cheapest-seekable (compared (p .before)) (p .if1 .left)
-
 -- ---- the needs
 
-lowest-free-requires : tie.Need-lowest-free-requires
-lowest-free-requires c κs = search needs
+below-requires : tie.Need-below-requires
+below-requires c κs = search needs
+
+first-over-requires : tie.Need-first-over-requires
+first-over-requires c κs = search needs
 
 cost-at-requires : tie.Need-cost-at-requires
-cost-at-requires c κs = search needs
+cost-at-requires c κs =
+    let e = c .before .before .before in
+    (omega (arith, e .pre .rank, e .pre .few-trees), e .pre .tree-edges (e .args .t .0) (e .pre .rank))
 
 goal-cost-requires : tie.Need-goal-cost-requires
 goal-cost-requires c κs = search needs
@@ -56,108 +60,96 @@ goal-cost-requires c κs = search needs
 returns : tie.Need-returns
 returns c = augmented-none (compared (c .before)) (c .if1 .taken)
 
-seek-requires : tie.Need-seek-requires
-seek-requires c κs = cheapest-able (c .before .before .before .before .before .before)
+cast-explore : tie.Need-cast-explore
+cast-explore c = search needs
 
-insert-requires : tie.Need-insert-requires
-insert-requires c κs =
-    let p = c .before .before .before .before .before .before .before .before .before in
-    (omega (arith, cheapest-able p .within), start-of (p .before) .pre .live-length)
+mul-explore : tie.Need-mul-explore
+mul-explore c = search needs
 
-sub-result : tie.Need-sub-result
-sub-result c = omega arith
+element-copy-out-explore : tie.Need-element-copy-out-explore
+element-copy-out-explore c =
+    omega (arith, low-below (compared (c .before)) (c .if1 .left), start-of (c .before) .pre .few-spares)
 
-cast-result : tie.Need-cast-result
-cast-result c = omega arith
+explore-requires : tie.Need-explore-requires
+explore-requires c κs = explore-ready (compared (c .before .before .before .before))
 
-add-result : tie.Need-add-result
-add-result c = let e = start-of (open-of (c .before .before .before) .before) in omega (arith, e .pre .room, e .pre .rank)
+element-copy-out-seen : tie.Need-element-copy-out-seen
+element-copy-out-seen c = search needs
 
-returns-2 : tie.Need-returns-2
-returns-2 c =
-    let d = c .before .before .before in
-    let p = open-of d in
-    augmented-met (compared (p .before)) (p .if1 .left) (d .seek .ensures) (c .before .before .if2 .taken) (c .insert .ensures .0) (c .insert .ensures .1)
-
-less-requires : tie.Need-less-requires
-less-requires c κs = search needs
-
-lowest-covering-requires : tie.Need-lowest-covering-requires
-lowest-covering-requires c κs = search needs
+goal-over-requires : tie.Need-goal-over-requires
+goal-over-requires c κs =
+    let f = open-of (c .before .before) .before in
+    (low-within (compared f), start-of f .pre .few-spares)
 
 goal-cost-requires-2 : tie.Need-goal-cost-requires-2
 goal-cost-requires-2 c κs = search needs
 
--- Paths lead to none that gains.
-returns-4 : tie.Need-returns-4
-returns-4 c =
+returns-2 : tie.Need-returns-2
+returns-2 c =
     let g = c .before in
-    let d = seek-of g in
+    let d = explore-of g in
     let p = open-of d in
-    augmented-off (compared (p .before)) (p .if1 .left) (d .seek .ensures) (g .before .before .before .before .if2 .left) (omega arith)
-    (g .before .before .before .less .ensures) (g .before .lowest-covering .ensures) (g .goal-cost2 .ensures) (c .if3 .left)
+    augmented-off (compared (p .before)) (p .if1 .left) (d .explore .ensures) (g .before .goal-over .ensures) (g .goal-cost2 .ensures) (c .if2 .taken)
 
--- They lead to one, which can be sought.
-goal-able :
-    (y : tie.Then3) →
-    let d = seek-of (y .before) in
-    let a = start-of (open-of d .before) .args in
-    Seekable (a .t .0) (y .before .before .lowest-covering .result) (d .seek .last .1 .1 .1 .0) (d .seek .last .1 .1 .1 .1 .0)
-    (a .tree-dead .now) (a .live .now)
-goal-able y =
-    let d = seek-of (y .before) in
-    goal-seekable (compared (open-of d .before)) (open-of d .if1 .left) (d .seek .ensures) (y .before .goal-cost2 .ensures) (y .if3 .taken)
+pair-requires : tie.Need-pair-requires
+pair-requires c κs =
+    let y = c .before .before .before .before .before in
+    let g = y .before in
+    let d = explore-of g in
+    let p = open-of d in
+    pair-able (compared (p .before)) (p .if1 .left) (d .explore .ensures) (g .before .goal-over .ensures) (g .goal-cost2 .ensures) (y .if2 .left)
 
-seek-requires-2 : tie.Need-seek-requires-2
-seek-requires-2 c κs = goal-able (c .before .before .before .before .before)
+add-t22 : tie.Need-add-t22
+add-t22 c =
+    let e = entry-of c .pre in
+    omega (arith, e .safe .few, e .rank, e .few-trees)
 
-insert-requires-2 : tie.Need-insert-requires-2
-insert-requires-2 c κs =
-    let y = c .before .before .before .before .before .before .before in
-    (goal-able y .within, start-of (open-of (seek-of (y .before)) .before) .pre .live-length)
+with-requires : tie.Need-with-requires
+with-requires c κs =
+    let e = entry-of c .pre in
+    omega (arith, e .safe .few, e .rank, e .few-trees)
 
-sub-result-2 : tie.Need-sub-result-2
-sub-result-2 c = omega arith
+sub-t41 : tie.Need-sub-t41
+sub-t41 c = search needs
 
-cast-result-2 : tie.Need-cast-result-2
-cast-result-2 c = omega arith
+cast-t42 : tie.Need-cast-t42
+cast-t42 c = search needs
 
-add-result-2 : tie.Need-add-result-2
-add-result-2 c =
-    let f = open-of (seek-of (c .before .before .before .before .before .before .before .before .before)) .before in
-    omega (arith, compared f .high-small, start-of f .pre .room, start-of f .pre .rank)
+add-t43 : tie.Need-add-t43
+add-t43 c =
+    let e = entry-of (c .before .before) .pre in
+    omega (arith, e .safe .room, e .rank, e .few-trees)
 
 returns-3 : tie.Need-returns-3
 returns-3 c =
-    let y = c .before .before .before .before .before .before .before .before in
+    let y = paired-of (c .before .before) in
     let g = y .before in
-    let d = seek-of g in
+    let d = explore-of g in
     let p = open-of d in
-    augmented-on (compared (p .before)) (p .if1 .left) (d .seek .ensures) (g .before .before .before .before .if2 .left) (omega arith)
-    (g .before .before .before .less .ensures) (g .before .lowest-covering .ensures) (g .goal-cost2 .ensures) (y .if3 .taken)
-    (c .before .before .seek2 .ensures) (c .insert2 .ensures .0) (c .insert2 .ensures .1)
+    augmented-on (compared (p .before)) (p .if1 .left) (d .explore .ensures) (g .before .goal-over .ensures) (g .goal-cost2 .ensures) (y .if2 .left)
+    (c .before .before .pair .ensures) (c .before .with .result) (c .before .with .ensures)
 
 pub augment-spec : {M : Type 1} → statement M
 augment-spec =
     tie.close
     (tie.spec
-    lowest-free-requires
+    below-requires
+    first-over-requires
     cost-at-requires
     goal-cost-requires
     returns
-    seek-requires
-    insert-requires
-    sub-result
-    cast-result
-    add-result
-    returns-2
-    less-requires
-    lowest-covering-requires
+    cast-explore
+    mul-explore
+    element-copy-out-explore
+    explore-requires
+    element-copy-out-seen
+    goal-over-requires
     goal-cost-requires-2
-    seek-requires-2
-    insert-requires-2
-    sub-result-2
-    cast-result-2
-    add-result-2
-    returns-3
-    returns-4)
+    returns-2
+    pair-requires
+    add-t22
+    with-requires
+    sub-t41
+    cast-t42
+    add-t43
+    returns-3)

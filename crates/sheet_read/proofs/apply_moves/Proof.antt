@@ -7,12 +7,13 @@ use mathlib.Core.Bool.{true}
 use lib.ListN.{length, drop, length-set}
 use borrow.Author.Needs.{needs}
 use borrow.Author.Tests.{not-false, not-true}
+use Rattle.loops.specs.PutLaws.{set-put}
 use Rattle.sheet.specs.Sheet.{InRange}
 use Rattle.sheet.specs.Reading.{mayMove, applyFrom, applySheet, costsAt}
 use Rattle.sheet.specs.EntryLaws.{moves-may}
 use Rattle.sheet_read.specs.declared.Entry.the-variants.{Moved}
 use Rattle.sheet_read.specs.Applying.{entryAt}
-use Rattle.sheet_read.specs.ApplyLaws.{no-count, count-read, inside-small, entry-within, set-put, in-range-set}
+use Rattle.sheet_read.specs.ApplyLaws.{no-count, count-read, inside-small, entry-within, in-range-set}
 use Rattle.sheet_read.specs.ApplyLaws.{apply-unread, apply-barred, apply-out, apply-turn, apply-end}
 use Rattle.sheet_read.proofs.apply_moves.Statement.{statement}
 use Rattle.sheet_read.proofs.apply_moves.Tie as tie
