@@ -2,9 +2,9 @@
 -- what the functions over ranks ask of their arrays. Definitions only. Assumes nothing.
 use Prim.Native.Nat.{ℕ, _≤_, _<_}
 use mathlib.Core.Path.{_≡_}
-use mathlib.Core.Bool.{Bool, false, _&&_}
+use mathlib.Core.Bool.{Bool, false, cond, _&&_}
 use mathlib.Core.List.{List}
-use lib.Dec.{ltb}
+use lib.Dec.{ltb, eqb}
 use lib.ListN.{length, getD, take}
 use Rattle.limits.specs.Limits.{marksSpare}
 use Rattle.loops.specs.Loop.{first}
@@ -26,6 +26,10 @@ undercutsAt cost ts ss end₁ end₂ mask t s = covers end₁ end₂ mask (getD 
 abbrev pub ColumnsHold : ℕ → ℕ → List ℕ → List ℕ → List ℕ → List ℕ → List ℕ → List ℕ → List ℕ → Type 0
 ColumnsHold trees spares cost ts ss end₁ end₂ mask cols =
     (t s : ℕ) → s < spares → bit (getD cols s 0) t ≡ (ltb t trees && undercutsAt cost ts ss end₁ end₂ mask t s)
+
+-- What the dearest tree edge costs; 0 if there is none.
+abbrev pub dearestOf : ℕ → List ℕ → List ℕ → ℕ
+dearestOf trees cost ts = cond (eqb trees 0) 0 (costAt cost ts 0)
 
 -- The edges that cost less than one of the tree edges that they cover.
 abbrev pub undercutting : ℕ → List ℕ → List ℕ → List ℕ → List ℕ → List ℕ → EdgeSet

@@ -10,7 +10,7 @@ use mathlib.Core.List.{List}
 use lib.Dec.{ltb}
 use lib.ListN.{length, getD, set}
 use lib.Seq.{getD-take, getD-set-other}
-use borrow.Author.Tests.{ltb-true, lt-ltb}
+use borrow.Author.Tests.{ne-eqb, ltb-true, lt-ltb}
 use Rattle.limits.specs.Limits.{marksSpare}
 use Rattle.loops.specs.Loop.{first}
 use Rattle.loops.specs.FirstLaws.{some-of, some-at}
@@ -23,7 +23,7 @@ use Rattle.graph.specs.CountLaws.{count-below}
 use Rattle.paths.specs.WordLaws.{lowest-below, lowest-set, lowest-before}
 use Rattle.ranks.specs.Keys.{ofEdge, keyAt, Collected}
 use Rattle.ranks.specs.KeysLaws.{members-same, collect-none, collect-with, collect-without}
-use Rattle.covering.specs.Covers.{covers, undercutting, isLow, lowList, RanksRise, Ends, Crossed, LowRanked, ColumnsHold}
+use Rattle.covering.specs.Covers.{covers, dearestOf, undercutting, isLow, lowList, RanksRise, Ends, Crossed, LowRanked, ColumnsHold}
 
 module _ {trees edges : ℕ} {cost ts end₁ end₂ mask : List ℕ} (h : Crossed trees edges cost ts end₁ end₂ mask) where
   abbrev over : ℕ → ℕ → Bool
@@ -43,6 +43,19 @@ module _ {trees edges : ℕ} {cost ts end₁ end₂ mask : List ℕ} (h : Crosse
       same-test _ _
       (λ u. let s = some-at most (over e) u in some-of trees (over e) (s .0) (covered-below e (s .0) (and-first _ _ (s .2))) (s .2))
       (λ u. let s = some-at trees (over e) u in some-of most (over e) (s .0) (omega (arith, s .1)) (s .2))
+
+  -- No tree edge costs more than the dearest.
+  at-most : (t : ℕ) → t < trees → costAt cost ts t ≤ dearestOf trees cost ts
+  at-most t l = rw (ne-eqb trees 0 (λ z. omega arith)) (h .falls 0 t (omega arith) l)
+
+  -- An edge that costs as much as that.
+  pub none-dearer : (e top : ℕ) → top ≡ dearestOf trees cost ts → top ≤ getD cost e 0 → false ≡ undercutting 64 cost ts end₁ end₂ mask e
+  none-dearer e top is dear =
+      same-test _ _ (λ u. clash u refl) λ u.
+      let s = some-at 64 (over e) u in
+      let t : ℕ = s .0 in
+      let below : t < trees = covered-below e t (and-first _ _ (s .2)) in
+      absurd (omega (arith, is, at-most t below, ltb-true (getD cost e 0) (costAt cost ts t) (and-second (covers end₁ end₂ mask e t) _ (s .2))))
 
   module _ (e w : ℕ) (word : (t : ℕ) → bit w t ≡ covers end₁ end₂ mask e t) where
     -- An edge that covers nothing.

@@ -8,7 +8,7 @@ ghost use lib.ListN.{length, getD};
 ghost use Rattle.bits.specs.Bit.{bit};
 ghost use Rattle.graph.specs.Rank.{Ranks, costAt};
 ghost use Rattle.ranks.specs.Keys.{SmallCosts, Collected, keyAt};
-ghost use Rattle.covering.specs.Covers.{covers, undercutting, isLow, ColumnsHold, RanksFall, RanksRise, Ends, Crossed, LowRanked};
+ghost use Rattle.covering.specs.Covers.{covers, dearestOf, undercutting, isLow, ColumnsHold, RanksFall, RanksRise, Ends, Crossed, LowRanked};
 use ids::Edge;
 use ids::Node;
 use limits::is_spare;
@@ -24,31 +24,51 @@ fn covered(e: Edge, end1: &[u32; 256], end2: &[u32; 256], mask: &[u64; 64]) -> u
     paths::crossing(mask, Node(a), Node(b))
 }
 
-// Does an edge cost less than a tree edge that it covers? Costs fall by rank: the lowest rank that it covers tells.
+// The cost of the dearest tree edge, which has rank 0; 0 if there is none.
+fn dearest(trees: u32, cost: &[u32; 256], ts: &[u32; 256]) -> u32
+    requires { ⌜ (0 < trees → getD (now ts) 0 0 < 256) ⌝ }
+    ensures { λ r. ⌜ r ≡ dearestOf trees (now (cost .entry)) (now (ts .entry)) ⌝ }
+{
+    if trees == 0 {
+        return 0;
+    }
+    let t = Edge(ts[0]);
+    cost[t.0 as usize]
+}
+
+// Does an edge cost less than a tree edge that it covers? Not if it costs as much as the dearest of all. Costs fall by rank: else the
+// lowest rank that it covers tells.
 fn undercuts(
     e: Edge,
+    top: u32,
     cost: &[u32; 256],
     ts: &[u32; 256],
     end1: &[u32; 256],
     end2: &[u32; 256],
     mask: &[u64; 64],
 ) -> bool
-    requires { ⌜ ((trees : ℕ) × (edges : ℕ) × (e .0 < edges) × Crossed trees edges (now cost) (now ts) (now end1) (now end2) (now mask)) ⌝ }
+    requires { ⌜ ((trees : ℕ) × (edges : ℕ) × (e .0 < edges) × (top ≡ dearestOf trees (now cost) (now ts))
+        × Crossed trees edges (now cost) (now ts) (now end1) (now end2) (now mask)) ⌝ }
     ensures { λ r. ⌜ r ≡ undercutting 64 (now (cost .entry)) (now (ts .entry)) (now (end1 .entry)) (now (end2 .entry)) (now (mask .entry)) (e .0) ⌝ }
 {
+    let x = cost[e.0 as usize];
+    if top <= x {
+        return false;
+    }
     let over = covered(e, end1, end2, mask);
     if over == 0 {
         return false;
     }
     let number = ts[bits::lowest(over) as usize];
     let t = Edge(number);
-    cost[e.0 as usize] < cost[t.0 as usize]
+    x < cost[t.0 as usize]
 }
 
 // Collects the keys of the spares that undercut, in place of the marks: their count, and the keys at the first places. A mark is
 // read before its place is written.
 fn collect_low(
     edges: usize,
+    top: u32,
     cost: &[u32; 256],
     ts: &[u32; 256],
     end1: &[u32; 256],
@@ -56,7 +76,8 @@ fn collect_low(
     mask: &[u64; 64],
     mark: &mut [u32; 256],
 ) -> usize
-    requires arrays { ⌜ ((trees : ℕ) × Crossed trees edges (now cost) (now ts) (now end1) (now end2) (now mask)) ⌝ }
+    requires arrays { ⌜ ((trees : ℕ) × (top ≡ dearestOf trees (now cost) (now ts)) × Crossed trees edges (now cost) (now ts) (now end1) (now end2)
+        (now mask)) ⌝ }
     requires costs { ⌜ SmallCosts edges (now cost) × (length (now mark) ≡ 256) ⌝ }
     ensures { λ r. ⌜ Collected (keyAt false (now (cost .entry)))
         (isLow 64 (now (cost .entry)) (now (mark .entry)) (now (ts .entry)) (now (end1 .entry)) (now (end2 .entry)) (now (mask .entry)))
@@ -67,7 +88,7 @@ fn collect_low(
     while e < edges {
         if is_spare(mark[e]) {
             let number = e as u32;
-            if undercuts(Edge(number), cost, ts, end1, end2, mask) {
+            if undercuts(Edge(number), top, cost, ts, end1, end2, mask) {
                 mark[n] = ranks::spare_key(cost[e], e);
                 n += 1;
             }
@@ -79,6 +100,7 @@ fn collect_low(
 
 // The spares that undercut by rising cost, in place of the marks: their count, and the edges at the first places.
 pub fn low_ranks(
+    trees: u32,
     edges: usize,
     cost: &[u32; 256],
     ts: &[u32; 256],
@@ -87,14 +109,13 @@ pub fn low_ranks(
     mask: &[u64; 64],
     mark: &mut [u32; 256],
 ) -> usize
-    requires arrays { ⌜ ((trees : ℕ) × Crossed trees edges (now cost) (now ts) (now end1) (now end2) (now mask)) ⌝ }
+    requires arrays { ⌜ Crossed trees edges (now cost) (now ts) (now end1) (now end2) (now mask) ⌝ }
     requires costs { ⌜ SmallCosts edges (now cost) × (length (now mark) ≡ 256) ⌝ }
-    ensures { λ r. ⌜ ((trees : ℕ)
-        → Crossed trees edges (now (cost .entry)) (now (ts .entry)) (now (end1 .entry)) (now (end2 .entry)) (now (mask .entry))
-        → LowRanked trees edges (now (cost .entry)) (now (mark .entry)) (now (ts .entry)) (now (end1 .entry)) (now (end2 .entry)) (now (mask .entry))
-        r (now (mark .exit))) ⌝ }
+    ensures { λ r. ⌜ LowRanked trees edges (now (cost .entry)) (now (mark .entry)) (now (ts .entry)) (now (end1 .entry)) (now (end2 .entry))
+        (now (mask .entry)) r (now (mark .exit)) ⌝ }
 {
-    let n = collect_low(edges, cost, ts, end1, end2, mask, mark);
+    let top = dearest(trees, cost, ts);
+    let n = collect_low(edges, top, cost, ts, end1, end2, mask, mark);
     ranks::rank_keys(mark, n);
     n
 }

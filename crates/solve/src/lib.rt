@@ -97,7 +97,7 @@ pub fn solve(
         → answerAt (r .steps) edges (now (cost .exit)) (r .count) (now (pairs .exit)) ≡ answerOf j) ⌝ }
 {
     let trees = nodes - 1;
-    let spares = covering::low_ranks(edges, cost, ts, end1, end2, mask, mark);
+    let spares = covering::low_ranks(trees, edges, cost, ts, end1, end2, mask, mark);
     if spares == 0 {
         return Solved { steps: 0, count: 0 };
     }

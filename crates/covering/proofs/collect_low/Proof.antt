@@ -10,15 +10,15 @@ use Rattle.covering.proofs.collect_low.Statement.{statement}
 use Rattle.covering.proofs.collect_low.Tie as tie
 
 abbrev Inv-loop : tie.InvT-loop
-Inv-loop edges cost ts end1 end2 mask mark₀ n₀ e₀ mark n e =
+Inv-loop edges top cost ts end1 end2 mask mark₀ n₀ e₀ mark n e =
     (e ≤ edges) × LowCollected cost mark₀ ts end1 end2 mask mark n e
 
 abbrev μ-loop : tie.MeasureT-loop
-μ-loop edges cost ts end1 end2 mask mark₀ n₀ e₀ mark n e = edges - e
+μ-loop edges top cost ts end1 end2 mask mark₀ n₀ e₀ mark n e = edges - e
 
 -- the edge at hand is a place of the arrays
 edge-below : (c : tie.In-loop Inv-loop μ-loop) → c .before .loop .e < 256
-edge-below c = omega (arith, c .before .before .pre .0 .1 .few-edges)
+edge-below c = omega (arith, c .before .before .pre .0 .2 .few-edges)
 
 loop-holds : tie.Need-loop-holds Inv-loop μ-loop
 loop-holds c =
@@ -40,7 +40,7 @@ cast-number c = omega arith
 undercuts-requires : tie.Need-undercuts-requires Inv-loop μ-loop
 undercuts-requires c κs =
     let l = c .before .before .before .before in
-    (l .before .pre .0 .0, l .before .args .edges, omega arith, l .before .pre .0 .1)
+    (l .before .pre .0 .0, l .before .args .edges, omega arith, l .before .pre .0 .1, l .before .pre .0 .2)
 
 mul-spare-key : tie.Need-mul-spare-key Inv-loop μ-loop
 mul-spare-key c = omega arith

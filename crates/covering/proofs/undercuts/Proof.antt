@@ -4,34 +4,54 @@ use native.Mathlib.Omega.{arith}
 use lib.ListN.{getD}
 use borrow.Author.Needs.{needs}
 use Rattle.paths.specs.WordLaws.{lowest-below}
-use Rattle.covering.specs.LowLaws.{none-covered, lowest-edge, lowest-tells}
+use Rattle.covering.specs.LowLaws.{none-dearer, none-covered, lowest-edge, lowest-tells}
 use Rattle.covering.proofs.undercuts.Statement.{statement}
 use Rattle.covering.proofs.undercuts.Tie as tie
 
+abbrev start-of : tie.After-covered → tie.Start
+start-of w = w .before .before .before .before
+
 -- the lowest rank that is covered, and its edge
 some : (c : tie.After-lowest) → 0 < c .before .before .covered .result
-some c = omega (arith, c .before .if1 .left)
+some c = omega (arith, c .before .if2 .left)
 
 below : (c : tie.After-lowest) → c .lowest .result < 64
 below c =
     let w = c .before .before .covered in
     lowest-below (w .result) (some c) (w .ok) (c .lowest .result) (c .lowest .ensures)
 
-edge-below : (c : tie.After-lowest) → getD (c .before .before .before .args .ts .now) (c .lowest .result) 0 < 256
+edge-below : (c : tie.After-lowest) → getD (start-of (c .before .before) .args .ts .now) (c .lowest .result) 0 < 256
 edge-below c =
     let w = c .before .before in
-    lowest-edge (w .before .pre .3) (w .before .args .e .0) (w .covered .result) (w .covered .ensures) (some c) (w .covered .ok) (c .lowest .result)
+    let t = start-of w in
+    lowest-edge (t .pre .4) (t .args .e .0) (w .covered .result) (w .covered .ensures) (some c) (w .covered .ok) (c .lowest .result)
     (c .lowest .ensures)
 
-covered-requires : tie.Need-covered-requires
-covered-requires c κs =
-    let p = c .pre in
-    (omega (arith, p .2, p .3 .few-edges), p .3 .first (c .args .e .0) (p .2), p .3 .second (c .args .e .0) (p .2))
+cast-x : tie.Need-cast-x
+cast-x c = search needs
+
+mul-x : tie.Need-mul-x
+mul-x c = search needs
+
+element-copy-out-x : tie.Need-element-copy-out-x
+element-copy-out-x c = let p = c .before .pre in omega (arith, p .2, p .4 .few-edges)
 
 returns : tie.Need-returns
 returns c =
-    let p = c .before .before .pre in
-    none-covered (p .3) (c .before .before .args .e .0) (c .before .covered .result) (c .before .covered .ensures) (c .if1 .taken)
+    let t = c .before .before .before in
+    none-dearer (t .pre .4) (t .args .e .0) (t .args .top) (t .pre .3) (c .if1 .taken)
+
+covered-requires : tie.Need-covered-requires
+covered-requires c κs =
+    let t = c .before .before .before in
+    let p = t .pre in
+    (omega (arith, p .2, p .4 .few-edges), p .4 .first (t .args .e .0) (p .2), p .4 .second (t .args .e .0) (p .2))
+
+returns-2 : tie.Need-returns-2
+returns-2 c =
+    let w = c .before in
+    let t = start-of w in
+    none-covered (t .pre .4) (t .args .e .0) (w .covered .result) (w .covered .ensures) (c .if2 .taken)
 
 lowest-requires : tie.Need-lowest-requires
 lowest-requires c κs = search needs
@@ -52,30 +72,26 @@ mul-result : tie.Need-mul-result
 mul-result c = search needs
 
 element-copy-out-result : tie.Need-element-copy-out-result
-element-copy-out-result c = search needs
+element-copy-out-result c = edge-below (c .before .before)
 
-cast-result-2 : tie.Need-cast-result-2
-cast-result-2 c = search needs
-
-mul-result-2 : tie.Need-mul-result-2
-mul-result-2 c = search needs
-
-element-copy-out-result-2 : tie.Need-element-copy-out-result-2
-element-copy-out-result-2 c = edge-below (c .before .before .before .before)
-
-returns-2 : tie.Need-returns-2
-returns-2 c =
-    let k = c .before .before .before .before .before in
+returns-3 : tie.Need-returns-3
+returns-3 c =
+    let k = c .before .before .before in
     let w = k .before .before in
-    lowest-tells (w .before .pre .3) (w .before .args .e .0) (w .covered .result) (w .covered .ensures) (some k) (w .covered .ok) (k .lowest .result)
+    let t = start-of w in
+    lowest-tells (t .pre .4) (t .args .e .0) (w .covered .result) (w .covered .ensures) (some k) (w .covered .ok) (k .lowest .result)
     (k .lowest .ensures)
 
 pub undercuts-spec : {M : Type 1} → statement M
 undercuts-spec =
     tie.close
     (tie.spec
-    covered-requires
+    cast-x
+    mul-x
+    element-copy-out-x
     returns
+    covered-requires
+    returns-2
     lowest-requires
     cast-number
     mul-number
@@ -83,7 +99,4 @@ undercuts-spec =
     cast-result
     mul-result
     element-copy-out-result
-    cast-result-2
-    mul-result-2
-    element-copy-out-result-2
-    returns-2)
+    returns-3)
