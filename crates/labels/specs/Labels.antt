@@ -13,7 +13,7 @@ use Rattle.graph.specs.Rank.{costAt}
 use Rattle.optimum.specs.Search.{Problem, Slots, spareSlot, never, search}
 use Rattle.optimum.specs.Slackness.{Ranked}
 use Rattle.optimum.specs.Lowest.{Marks, marked, labelSlot, labelFrom, slotMarks}
-use Rattle.search.specs.Board.{Kept}
+use Rattle.search.specs.Board.{Partners, Kept}
 use Rattle.search.specs.BoardLaws.{Fits}
 use Rattle.matching.specs.Tables.{Edges, Holds, tables, HoldsPairs}
 
@@ -39,7 +39,7 @@ pub record LabelRoom (words links label : List ℕ) : Type 0 where
   pub words-length : length words ≡ 66
   pub links-length : length links ≡ 128
   pub label-length : length label ≡ 64
-  pub partners : (k : ℕ) → k < 64 → getD links k 0 < 64
+  pub partners : Partners links
 
 -- What an exploration from tree rank t over the slots `left` has visited is labelled, with those that were live but not in `left`.
 pub record LabelledFrom (t x live left : ℕ) (words links label words′ links′ label′ : List ℕ) (live′ : ℕ) : Type 0 where

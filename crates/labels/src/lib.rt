@@ -7,11 +7,12 @@ ghost use Prim.Native.Nat.{ℕ, _-_, _<_, _≤_};
 ghost use lib.ListN.{getD, length};
 ghost use Rattle.bits.specs.Bit.{bit};
 ghost use Rattle.graph.specs.Rank.{costAt};
+ghost use Rattle.search.specs.Board.{Partners};
 ghost use Rattle.labels.specs.Labels.{pairedBelow, LabelPut, LabelRoom, LabelledFrom, SpareLabelled, SparesRead, SparesLabelled, Labellable, Labelled};
 
 // The tree ranks that are in a pair.
 fn paired_trees(slots: u32, links: &[u32; 128]) -> u64
-    requires { ⌜ (slots ≤ 64) × ((k : ℕ) → k < 64 → getD (now links) k 0 < 64) ⌝ }
+    requires { ⌜ (slots ≤ 64) × Partners (now links) ⌝ }
     ensures { λ r. ⌜ ((t : ℕ) → bit r t ≡ pairedBelow slots (now (links .entry)) t) ⌝ }
 {
     let mut w = 0u64;

@@ -8,6 +8,7 @@ use lib.Dec.{eqb}
 use lib.ListN.{length, getD}
 use Rattle.graph.specs.Rank.{costAt}
 use Rattle.bits.specs.Bit.{bit}
+use Rattle.search.specs.Board.{Partners}
 use Rattle.optimum.specs.Search.{Problem, Slots, matesIn, Progress}
 
 -- The first n ranks are numbers of edges.
@@ -43,7 +44,7 @@ pub record Sized (b : Tables) : Type 0 where
   pub links-length : length (b .links) ≡ 128
   pub spare-length : length (b .spare) ≡ 128
   pub slot-length : length (b .slot) ≡ 256
-  pub partners : (k : ℕ) → k < 64 → getD (b .links) k 0 < 64
+  pub partners : Partners (b .links)
 
 -- They hold the pairs q of the problem p, whose columns were `cols₀` before the first pair.
 pub record HoldsPairs (p : Problem) (q : Slots) (cols₀ : List ℕ) (b : Tables) : Type 0 where

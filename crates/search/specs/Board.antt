@@ -49,12 +49,16 @@ boardTree words links = tryTree (boardOf words) (slotsOf links)
 abbrev pub unvisited : ℕ → ℕ
 unvisited live = 2 * count 64 (bit live)
 
+-- The slots are paired with tree ranks below 64.
+abbrev pub Partners : List ℕ → Type 0
+Partners links = (k : ℕ) → k < 64 → getD links k 0 < 64
+
 -- What an exploration needs.
 pub record Ready (t : ℕ) (words links : List ℕ) : Type 0 where
   pub rank : t < 64
   pub words-length : length words ≡ 66
   pub links-length : length links ≡ 128
-  pub below : (k : ℕ) → k < 64 → getD links k 0 < 64
+  pub below : Partners links
 
 -- What it leaves as it was: the arrays' sizes, the rows, and the tree ranks of the slots.
 pub record Kept (words links words′ links′ : List ℕ) : Type 0 where

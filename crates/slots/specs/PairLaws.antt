@@ -15,7 +15,8 @@ use Rattle.loops.specs.PutLaws.{set-put}
 use Rattle.bits.specs.Bit.{bit}
 use Rattle.bits.specs.BitLaws.{bit-zero, first-below}
 use Rattle.optimum.specs.Search.{Search, turn}
-use Rattle.slots.specs.Paired.{Filled, Partners, ways, Turned, hitIn}
+use Rattle.search.specs.Board.{Partners}
+use Rattle.slots.specs.Paired.{Filled, ways, Turned, hitIn}
 
 -- ---- the rows
 

@@ -1,5 +1,5 @@
 -- What a pair changes in the arrays, in the words of the model. Definitions only. Assumes nothing.
-use Prim.Native.Nat.{ℕ, _+_, _/_, _%_, _≤_, _<_}
+use Prim.Native.Nat.{ℕ, _≤_, _<_}
 use mathlib.Core.Path.{_≡_}
 use mathlib.Core.Bool.{false, _&&_, _||_}
 use mathlib.Core.List.{List}
@@ -8,6 +8,7 @@ use lib.ListN.{length, getD, set}
 use Rattle.loops.specs.Loop.{first}
 use Rattle.bits.specs.Bit.{bit}
 use Rattle.optimum.specs.Search.{Search, turn}
+use Rattle.search.specs.Board.{fromOf, byOf, Partners}
 
 -- Slot k is put into the rows of the tree ranks of a set.
 pub record Filled (k trees : ℕ) (words words′ : List ℕ) : Type 0 where
@@ -15,19 +16,9 @@ pub record Filled (k trees : ℕ) (words words′ : List ℕ) : Type 0 where
   pub rows : (t k′ : ℕ) → t < 64 → bit (getD words′ t 0) k′ ≡ (bit (getD words t 0) k′ || (eqb k k′ && bit trees t))
   pub rest : (i : ℕ) → 64 ≤ i → getD words′ i 0 ≡ getD words i 0
 
--- The slots are paired with tree ranks below 64.
-abbrev pub Partners : List ℕ → Type 0
-Partners links = (k : ℕ) → k < 64 → getD links k 0 < 64
-
 -- The ways back that the array holds, as an exploration: nothing else of one is asked when they are turned.
 abbrev pub ways : List ℕ → Search
-ways links =
-    record {
-      live = λ _. false;
-      seen = λ _. false;
-      from = λ x. getD links (64 + x) 0 % 64;
-      by = λ x. getD links (64 + x) 0 / 64 % 64;
-    }
+ways links = record { live = λ _. false; seen = λ _. false; from = fromOf links; by = byOf links }
 
 -- The way from tree rank `hit` back to `root` is turned, for a new slot.
 pub record Turned (root hit slot : ℕ) (links links′ : List ℕ) : Type 0 where

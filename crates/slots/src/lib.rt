@@ -4,7 +4,8 @@
 ghost use mathlib.Core.Path.{_≡_};
 ghost use Prim.Native.Nat.{_<_};
 ghost use lib.ListN.{length};
-ghost use Rattle.slots.specs.Paired.{Filled, Turned, Partners, Pairing, PairPut};
+ghost use Rattle.search.specs.Board.{Partners};
+ghost use Rattle.slots.specs.Paired.{Filled, Turned, Pairing, PairPut};
 use ids::Slot;
 use ids::SpareRank;
 use ids::TreeRank;
