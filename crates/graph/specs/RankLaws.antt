@@ -29,7 +29,7 @@ module _ (before : ℕ → ℕ → Bool) (x : ℕ) where
         | false ↦ Memᴰ.tail (insert_here ys q)
       ]
 
-  insert_there : {ys : List ℕ} {e : ℕ} → Memᴰ e ys → Memᴰ e (insert before x ys)
+  insert_there : {e : ℕ} {ys : List ℕ} → Memᴰ e ys → Memᴰ e (insert before x ys)
   unfolding insert
   insert_there {e} (Memᴰ.head {x = y} {xs = ys} q) =
       elim (before x y) as (λ b. Memᴰ e (cond b (x ∷ y ∷ ys) (y ∷ insert before x ys))) [
@@ -119,7 +119,7 @@ module _ (before : ℕ → ℕ → Bool) (x : ℕ) where
 
 -- Sorting.
 module _ (before : ℕ → ℕ → Bool) where
-  pub sorted_has : {xs : List ℕ} {e : ℕ} → Memᴰ e xs → Memᴰ e (sorted before xs)
+  pub sorted_has : {e : ℕ} {xs : List ℕ} → Memᴰ e xs → Memᴰ e (sorted before xs)
   unfolding sorted
   sorted_has (Memᴰ.head {x = x} {xs = xs} q) = insert_here before x (sorted before xs) q
   sorted_has (Memᴰ.tail {x = x} m) = insert_there before x (sorted_has m)
