@@ -6,8 +6,8 @@ use Rattle.std.proofs.Math.Path.{ap}
 use Rattle.number.specs.Number.{Bytes}
 use Rattle.frame.specs.Job.{Job}
 use Rattle.frame.specs.Questions.{job_of, layout_refusal, job_refusal, refusal}
-use Rattle.frame.specs.Form.{layout_refused, layout_passed}
-use Rattle.frame.specs.Accepted.{accepted}
+use Rattle.frame.proofs.Form.{layout_refused, layout_passed}
+use Rattle.frame.proofs.Accepted.{accepted}
 use Rattle.job.specs.declared.Header.{Header}
 use Rattle.job.specs.Reading.{header, layout_header, refused_header}
 use Rattle.accept.specs.Accepting.{accepted_header}

@@ -14,13 +14,13 @@ use Rattle.graph.specs.Graph.{Graph}
 use Rattle.graph.specs.Rank.{sorted, members, tree_ranks, Lists}
 use Rattle.graph.specs.RankLaws.{members_list, tree_lists}
 use Rattle.graph.specs.Paths.{rooted, is_tree}
-use Rattle.graph.specs.Tree.{tree_means}
+use Rattle.graph.proofs.Tree.{tree_means}
 use Rattle.frame.specs.Job.{JobLink, Job, link, graph_of, tree_of, cost_of}
 use Rattle.frame.specs.Arrays.{Columns, Arrays}
 use Rattle.frame.specs.Questions.{ask, job_of, question4, question5, question6, layout_refusal, job_refusal}
-use Rattle.frame.specs.Form.{question4_means, question5_means, tree_usable, question6_means, ends_sound, two_refused}
-use Rattle.frame.specs.Lists.{Listed, ask_passed, small_job, counted_limits}
-use Rattle.frame.specs.Accepted.{laid_job, listed_accepted, cost_small}
+use Rattle.frame.proofs.Form.{question4_means, question5_means, tree_usable, question6_means, ends_sound, two_refused}
+use Rattle.frame.proofs.Lists.{Listed, ask_passed, small_job, counted_limits}
+use Rattle.frame.proofs.Accepted.{laid_job, listed_accepted, cost_small}
 use Rattle.adjacency.specs.Words.{RankedEnds}
 use Rattle.paths.specs.Arrays.{array_graph, Walked}
 use Rattle.ranks.specs.Keys.{in_tree, tree_list, tree_edges, SmallCosts}

@@ -5,7 +5,7 @@ use Rattle.std.proofs.Common.{sym, subst, ◌∙◌}
 use Rattle.frame.specs.Job.{Job, job_numbers, job_frame}
 use Rattle.frame.specs.Arrays.{Arrays}
 use Rattle.frame.specs.Questions.{job_of, refusal}
-use Rattle.frame.specs.Accepted.{numbers_bytes, read_write6}
+use Rattle.frame.proofs.Accepted.{numbers_bytes, read_write6}
 use Rattle.held.specs.Held.{Held}
 use Rattle.job.specs.declared.Header.{Header}
 use Rattle.job.specs.Reading.{header}

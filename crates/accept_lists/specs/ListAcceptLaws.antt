@@ -6,8 +6,8 @@ use Rattle.frame.specs.Job.{Job, job_numbers, job_frame}
 use Rattle.frame.specs.Arrays.{Arrays}
 use Rattle.frame.specs.Questions.{job_of, refusal, list_refusal}
 use Rattle.frame.specs.Services.{small}
-use Rattle.frame.specs.Lists.{list_as_frame, list_passed, list_read}
-use Rattle.frame.specs.Accepted.{numbers_bytes}
+use Rattle.frame.proofs.Lists.{list_as_frame, list_passed, list_read}
+use Rattle.frame.proofs.Accepted.{numbers_bytes}
 use Rattle.held.specs.Held.{Held}
 use Rattle.job.specs.declared.Header.{Header}
 use Rattle.job.specs.Reading.{header, refused_header}

@@ -7,9 +7,9 @@ use Rattle.std.proofs.Math.ListN.{get_or-eq_default}
 use Rattle.loops.specs.GatherLaws.{get_d_tabulate}
 use Rattle.frame.specs.Job.{JobLink, Job, no_link, link}
 use Rattle.frame.specs.Questions.{counted, job_refusal, list_layout_refusal, list_refusal}
-use Rattle.frame.specs.Form.{two_refused, two_passed}
+use Rattle.frame.proofs.Form.{two_refused, two_passed}
 use Rattle.frame.specs.Services.{small}
-use Rattle.frame.specs.Lists.{layout_listed}
+use Rattle.frame.proofs.Lists.{layout_listed}
 use Rattle.frame.specs.Arrays.{Columns, link_at, links_at, job_at}
 use Rattle.links.specs.ColumnLaws.{rows_length}
 use Rattle.accept_lists.specs.Lists.{ListHeld}

@@ -18,14 +18,14 @@ use Rattle.number.specs.Number.{Bytes, decode}
 use Rattle.leb128.specs.Positions.{read_at, located_value, located_refused}
 use Rattle.number.specs.Number.Decoded.{number}
 use Rattle.leb128.specs.declared.Number.TheVariants as Read
-use Rattle.number.specs.Laws.{decode_size, bytes_drop}
+use Rattle.number.proofs.Laws.{decode_size, bytes_drop}
 use Rattle.optimum.specs.Optimum.{Pair, Answer}
 use Rattle.limits.specs.Limits.{step_bytes}
 use Rattle.frame.specs.Job.{bytes_of}
 use Rattle.frame.specs.Questions.{numbers}
 use Rattle.frame.specs.Answers.{pair_from, pairs_from, answer_from, answer_behind, read_answer}
 use Rattle.frame.specs.Meaning.{Divides}
-use Rattle.frame.specs.Division.{division}
+use Rattle.frame.proofs.Division.{division}
 use Rattle.codec.specs.declared.Taken.{Taken}
 use Rattle.division.specs.declared.Numbers.TheVariants.{Count, Refused}
 use Rattle.codec.specs.Numbers.{taken_at, numbers_at, Divided, Loaded, loaded_at, loaded}

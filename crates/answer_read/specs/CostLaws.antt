@@ -10,7 +10,7 @@ use Rattle.std.proofs.Math.Seq.{drop-append_seam}
 use Rattle.number.specs.Number.{encode}
 use Rattle.leb128.specs.Positions.{located, read_at}
 use Rattle.leb128.specs.declared.Number.TheVariants as Read
-use Rattle.number.specs.Laws.{decode_encode}
+use Rattle.number.proofs.Laws.{decode_encode}
 use Rattle.optimum.specs.Optimum.{both}
 use Rattle.limits.specs.Limits.{number_bytes, step_bytes}
 use Rattle.frame.specs.Job.{bytes_of}

@@ -6,10 +6,10 @@ use Rattle.frame.specs.AnswerMeaning.{answer_frame}
 use Rattle.frame.specs.Questions.{job_of, refusal}
 use Rattle.frame.specs.Answers.{answer_of}
 use Rattle.frame.specs.Replies.{answered}
-use Rattle.frame.specs.Form.{first_no}
-use Rattle.frame.specs.Accepted.{accepted}
-use Rattle.frame.specs.OwnAnswer.{own, own_layout, own_certified, own_judged, own_read}
-use Rattle.frame.specs.Outcomes.{served_of, served_none}
+use Rattle.frame.proofs.Form.{first_no}
+use Rattle.frame.proofs.Accepted.{accepted}
+use Rattle.frame.proofs.OwnAnswer.{own, own_layout, own_certified, own_judged, own_read}
+use Rattle.frame.proofs.Outcomes.{served_of, served_none}
 use Rattle.codec.specs.declared.Reply.{Reply}
 use Rattle.codec.specs.Numbers.{outcome}
 use Rattle.answering.specs.Answering.{Delivered, Answered}

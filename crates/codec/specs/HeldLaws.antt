@@ -5,13 +5,13 @@ use mathlib.Core.List.{List, [], ◌∷◌, ◌++◌, flat_map, append_assoc}
 use Rattle.loops.specs.Loop.{gather}
 use Rattle.loops.specs.GatherLaws.{length_tabulate}
 use Rattle.number.specs.Number.{encode}
-use Rattle.number.specs.Laws.{encode_size_last, encode_size_most}
+use Rattle.number.proofs.Laws.{encode_size_last, encode_size_most}
 use Rattle.optimum.specs.Optimum.{both}
 use Rattle.limits.specs.Limits.{number_bytes, step_bytes}
 use Rattle.frame.specs.Job.{bytes_of}
 use Rattle.frame.specs.AnswerMeaning.{answer_frame}
 use Rattle.frame.specs.Answers.{pair_from}
-use Rattle.frame.specs.RoundTrip.{flat_map_append}
+use Rattle.frame.proofs.RoundTrip.{flat_map_append}
 use Rattle.codec.specs.Numbers.{numbers_at}
 use Rattle.codec.specs.ListLaws.{size_short}
 use Rattle.codec.specs.Held.{pairs_at, answer_front, answer_at}

@@ -9,12 +9,12 @@ use Rattle.loops.specs.Loop.{scan, gather}
 use Rattle.loops.specs.ScanLaws.{scan_turn}
 use Rattle.loops.specs.GatherLaws.{gather_same, length_tabulate, tabulate_get_d}
 use Rattle.number.specs.Number.{encode}
-use Rattle.number.specs.Laws.{encode_size_most}
+use Rattle.number.proofs.Laws.{encode_size_most}
 use Rattle.limits.specs.Limits.{number_bytes}
 use Rattle.frame.specs.Job.{bytes_of}
 use Rattle.frame.specs.Meaning.{Divides}
-use Rattle.frame.specs.RoundTrip.{flat_map_append}
-use Rattle.frame.specs.OwnAnswer.{bytes_most}
+use Rattle.frame.proofs.RoundTrip.{flat_map_append}
+use Rattle.frame.proofs.OwnAnswer.{bytes_most}
 use Rattle.codec.specs.declared.Taken.{Taken}
 use Rattle.codec.specs.Numbers.{taken_at, numbers_at, Loaded, loaded_at, load}
 use Rattle.codec.specs.NumberLaws.{next_number}

@@ -7,13 +7,13 @@ use Rattle.loops.specs.Loop.{scan}
 use Rattle.number.specs.Number.{decode, encode}
 use Rattle.leb128.specs.Positions.{read_at, located_value, located_refused, Stands}
 use Rattle.leb128.specs.declared.Number.TheVariants as Read
-use Rattle.number.specs.Laws.{decode_encode, encode_size_pos}
+use Rattle.number.proofs.Laws.{decode_encode, encode_size_pos}
 use Rattle.limits.specs.Limits.{number_bytes}
 use Rattle.frame.specs.Job.{bytes_of}
 use Rattle.codec.specs.Numbers.{taken, taken_at, Divided, step, skipped}
 use Rattle.frame.specs.Meaning.{Divides}
 use Rattle.codec.specs.declared.Taken.{Taken}
-use Rattle.frame.specs.RoundTrip.{flat_map_append}
+use Rattle.frame.proofs.RoundTrip.{flat_map_append}
 
 -- What the reader of numbers says, in terms of what stands there.
 pub taken_value : (s : List ℕ) (at v next : ℕ) → read_at number_bytes s at ≡ Read.Value v next → taken_at s at ≡ record { value = v; next = next }

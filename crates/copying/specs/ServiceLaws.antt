@@ -9,8 +9,8 @@ use Rattle.std.proofs.lemmas.List.Edits.{sets}
 use Rattle.std.proofs.lemmas.Bool.{lt-leb}
 use Rattle.frame.specs.Job.{JobLink, Job, fields}
 use Rattle.frame.specs.Questions.{job_of, numbers, refusal}
-use Rattle.frame.specs.Accepted.{accepted, accepted_layout}
-use Rattle.frame.specs.AnswerLayout.{length_both}
+use Rattle.frame.proofs.Accepted.{accepted, accepted_layout}
+use Rattle.frame.proofs.AnswerLayout.{length_both}
 use Rattle.frame.specs.Services.{written}
 use Rattle.number.specs.Number.{Bytes}
 use Rattle.loops.specs.GatherLaws.{length_tabulate}

@@ -8,10 +8,10 @@ use Rattle.loops.specs.Below.{all_below, sum}
 use Rattle.loops.specs.TestLaws.{and_first, and_second}
 use Rattle.number.specs.Number.{Bytes, extend, decode}
 use Rattle.number.specs.Number.Decoded.{number, none}
-use Rattle.number.specs.Laws.{extend_zero, extend_more, decode_one, decode_group, decode_wider}
+use Rattle.number.proofs.Laws.{extend_zero, extend_more, decode_one, decode_group, decode_wider}
 use Rattle.limits.specs.Limits.{number_bytes}
 use Rattle.frame.specs.Questions.{divide}
-use Rattle.frame.specs.Division.{divide_number, divide_none}
+use Rattle.frame.proofs.Division.{divide_number, divide_none}
 use Rattle.division.specs.declared.Numbers.{Numbers}
 use Rattle.division.specs.Counting.{count_from, Counting, followed, continued}
 use Rattle.division.specs.CountingLaws.{count_more, count_number}

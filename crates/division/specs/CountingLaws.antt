@@ -6,10 +6,10 @@ use Rattle.number.specs.Number.{decode}
 use Rattle.leb128.specs.Positions.{read_at, located_value, located_refused}
 use Rattle.number.specs.Number.Decoded.{number}
 use Rattle.leb128.specs.declared.Number.TheVariants as Read
-use Rattle.number.specs.Laws.{decode_size}
+use Rattle.number.proofs.Laws.{decode_size}
 use Rattle.limits.specs.Limits.{number_bytes}
 use Rattle.frame.specs.Questions.{divide, numbers}
-use Rattle.frame.specs.Division.{divide_end, divide_number, divide_none}
+use Rattle.frame.proofs.Division.{divide_end, divide_number, divide_none}
 use Rattle.division.specs.declared.Numbers.{Numbers}
 use Rattle.division.specs.declared.Numbers.TheVariants.{Count, Refused}
 use Rattle.division.specs.Counting.{count_from, Counting}

@@ -7,13 +7,13 @@ use Rattle.loops.specs.TestLaws.{truth}
 use Rattle.number.specs.Number.{Bytes}
 use Rattle.frame.specs.Answers.{judge_answer}
 use Rattle.frame.specs.AnswerMeaning.{AnswerOf}
-use Rattle.frame.specs.AnswerJudge.{answer_judged, certified_judged}
+use Rattle.frame.proofs.AnswerJudge.{answer_judged, certified_judged}
 use Rattle.frame.specs.Questions.{job_of, refusal}
 use Rattle.frame.specs.Services.{Place, nowhere, part_at}
 use Rattle.frame.specs.Replies.{link_place, link_part, cost_place, cost_part}
-use Rattle.frame.specs.Accepted.{accepted, accepted_layout}
-use Rattle.frame.specs.Finders.{link_shown, link_refused, link_past, cost_nowhere_refused, cost_nowhere_past, cost_nowhere_judged}
-use Rattle.frame.specs.Finders.{cost_placed, cost_shown, cost_refused, cost_past, cost_judged_no}
+use Rattle.frame.proofs.Accepted.{accepted, accepted_layout}
+use Rattle.frame.proofs.Finders.{link_shown, link_refused, link_past, cost_nowhere_refused, cost_nowhere_past, cost_nowhere_judged}
+use Rattle.frame.proofs.Finders.{cost_placed, cost_shown, cost_refused, cost_past, cost_judged_no}
 use Rattle.job.specs.declared.Header.{Header}
 use Rattle.job.specs.Reading.{header, layout_header}
 use Rattle.accept.specs.Accepting.{accepted_header}

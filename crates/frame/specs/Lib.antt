@@ -7,14 +7,3 @@ pub mod Services
 pub mod Questions
 pub mod Answers
 pub mod Replies
-pub mod Division
-pub mod Form
-pub mod RoundTrip
-pub mod Lists
-pub mod Accepted
-pub mod AnswerLayout
-pub mod AnswerJudge
-pub mod Finders
-pub mod OwnAnswer
-pub mod Unplugged
-pub mod Outcomes

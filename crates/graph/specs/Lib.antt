@@ -10,5 +10,4 @@ pub mod Labels
 pub mod Sides
 pub mod Swap
 pub mod Criterion
-pub mod Tree
 pub mod Violations

@@ -7,8 +7,8 @@ use Rattle.number.specs.Number.{Bytes}
 use Rattle.frame.specs.Job.{bytes_of}
 use Rattle.frame.specs.Questions.{numbers}
 use Rattle.frame.specs.Meaning.{node_count, edge_count, Divides, Counted}
-use Rattle.frame.specs.Division.{division}
-use Rattle.frame.specs.Form.{question2_means, question3_means, refuted}
+use Rattle.frame.proofs.Division.{division}
+use Rattle.frame.proofs.Form.{question2_means, question3_means, refuted}
 use Rattle.codec.specs.declared.Taken.{Taken}
 use Rattle.job.specs.declared.Counts.{Counts}
 use Rattle.division.specs.declared.Numbers.TheVariants.{Count, Refused}

@@ -10,9 +10,9 @@ use Rattle.frame.specs.Questions.{numbers, job_of, layout_refusal}
 use Rattle.frame.specs.Meaning.{edge_count, Divides}
 use Rattle.frame.specs.Services.{nowhere, link_offset, link_length}
 use Rattle.frame.specs.Replies.{link_place}
-use Rattle.frame.specs.Division.{division}
-use Rattle.frame.specs.RoundTrip.{job_of_lem, length_links}
-use Rattle.frame.specs.Accepted.{laid}
+use Rattle.frame.proofs.Division.{division}
+use Rattle.frame.proofs.RoundTrip.{job_of_lem, length_links}
+use Rattle.frame.proofs.Accepted.{laid}
 use Rattle.job.specs.declared.Header.{Header}
 use Rattle.codec.specs.Numbers.{skipped}
 use Rattle.job.specs.Reading.{header, layout_header}

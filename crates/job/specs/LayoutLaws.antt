@@ -8,9 +8,9 @@ use Rattle.number.specs.Number.{Bytes}
 use Rattle.frame.specs.Job.{JobLink, Job, bytes_of}
 use Rattle.frame.specs.Questions.{numbers, job_of, question2, question3, layout_refusal}
 use Rattle.frame.specs.Meaning.{links_of, node_count, edge_count, job_from, Divides}
-use Rattle.frame.specs.Division.{division}
-use Rattle.frame.specs.Form.{question2_means, question3_means}
-use Rattle.frame.specs.RoundTrip.{length_links}
+use Rattle.frame.proofs.Division.{division}
+use Rattle.frame.proofs.Form.{question2_means, question3_means}
+use Rattle.frame.proofs.RoundTrip.{length_links}
 use Rattle.job.specs.declared.Counts.{Counts}
 use Rattle.codec.specs.Numbers.{Divided}
 use Rattle.job.specs.Reading.{LinksLoaded, links_loaded, load_links, filled, counts_of, refused_counts, header, layout_header}

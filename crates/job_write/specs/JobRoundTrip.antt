@@ -7,8 +7,8 @@ use Rattle.loops.specs.GatherLaws.{get_d_tabulate}
 use Rattle.number.specs.Number.{Bytes}
 use Rattle.frame.specs.Job.{JobLink, no_link, job_frame}
 use Rattle.frame.specs.Questions.{job_of, form_refusal, list_layout_refusal}
-use Rattle.frame.specs.RoundTrip.{links_few, write_read}
-use Rattle.frame.specs.Lists.{layout_as_frame, layout_listed, list_read}
+use Rattle.frame.proofs.RoundTrip.{links_few, write_read}
+use Rattle.frame.proofs.Lists.{layout_as_frame, layout_listed, list_read}
 use Rattle.frame.specs.Arrays.{Columns, link_at, links_at, job_at}
 use Rattle.links.specs.Columns.{Places}
 use Rattle.links.specs.ColumnLaws.{column, rows_length}

@@ -11,7 +11,7 @@ use Rattle.loops.specs.Loop.{gather}
 use Rattle.limits.specs.Limits.{number_bytes}
 use Rattle.number.specs.Number.{encode}
 use Rattle.frame.specs.Job.{fields, bytes_of, job_frame}
-use Rattle.frame.specs.RoundTrip.{flat_map_append}
+use Rattle.frame.proofs.RoundTrip.{flat_map_append}
 use Rattle.frame.specs.Arrays.{Columns, link_at, links_at, job_at}
 use Rattle.codec.specs.Numbers.{numbers_at}
 use Rattle.codec.specs.ListLaws.{gather_within}

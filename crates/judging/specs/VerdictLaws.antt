@@ -5,9 +5,9 @@ use Rattle.loops.specs.TestLaws.{truth, clash}
 use Rattle.number.specs.Number.{Bytes}
 use Rattle.frame.specs.Questions.{job_of, refusal}
 use Rattle.frame.specs.Answers.{judge_tree, judge_answer}
-use Rattle.frame.specs.Form.{first_no}
-use Rattle.frame.specs.Accepted.{accepted}
-use Rattle.frame.specs.AnswerJudge.{tree_judged, answer_judged}
+use Rattle.frame.proofs.Form.{first_no}
+use Rattle.frame.proofs.Accepted.{accepted}
+use Rattle.frame.proofs.AnswerJudge.{tree_judged, answer_judged}
 use Rattle.judging.specs.declared.Verdict.{Verdict}
 use Rattle.judging.specs.declared.Verdict.TheVariants.{Yes, No, Refused}
 use Rattle.judging.specs.Verdicts.{verdict, VerdictOn, TreeJudged, AnswerJudged}

@@ -8,7 +8,7 @@ use Rattle.loops.specs.PutLaws.{put_less}
 use Rattle.bits.specs.Bit.{bit}
 use Rattle.graph.specs.Rank.{cost_at}
 use Rattle.optimum.specs.Search.{Problem, Slots, spare_slot, never, search}
-use Rattle.optimum.specs.SearchLaws.{search_closed}
+use Rattle.optimum.proofs.SearchLaws.{search_closed}
 use Rattle.optimum.specs.Lowest.{Marks, marked, label_slot, label_from}
 use Rattle.search.specs.Board.{Ready, Kept, Explored}
 use Rattle.search.specs.SlotSteps.{kept_both}

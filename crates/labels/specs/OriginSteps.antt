@@ -14,7 +14,7 @@ use Rattle.bits.specs.BitLaws.{bit_zero, first_below}
 use Rattle.graph.specs.Rank.{cost_at}
 use Rattle.optimum.specs.Search.{Problem, Slots, mates_in, tree_slot, never, search}
 use Rattle.optimum.specs.Slackness.{Ranked}
-use Rattle.optimum.specs.SlotLaws.{Distinct, mates_at, mates_view, slot_found, slot_none}
+use Rattle.optimum.proofs.SlotLaws.{Distinct, mates_at, mates_view, slot_found, slot_none}
 use Rattle.optimum.specs.Lowest.{Marks, marked, label_tree, label_from, unlabelled, slot_marks}
 use Rattle.search.specs.Board.{Kept}
 use Rattle.search.specs.SlotSteps.{kept_both}

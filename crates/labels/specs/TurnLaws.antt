@@ -9,7 +9,7 @@ use Rattle.std.proofs.Math.Bool.{and-false}
 use Rattle.loops.specs.Loop.{put}
 use Rattle.loops.specs.TestLaws.{truth, clash, and_first, and_miss}
 use Rattle.optimum.specs.Search.{Problem, Slots, tree_slot, spare_slot, never, search}
-use Rattle.optimum.specs.SearchLaws.{search_closed, unlive}
+use Rattle.optimum.proofs.SearchLaws.{search_closed, unlive}
 use Rattle.optimum.specs.Lowest.{Marks, marked, label_tree, label_slot, label_from}
 
 module _ (p : Problem) (q : Slots) where

@@ -10,7 +10,7 @@ use Rattle.number.specs.Number.{Bytes, extend, decode}
 use Rattle.leb128.specs.Positions.{located, read_at, Stands, located_value, located_refused}
 use Rattle.number.specs.Number.Decoded.{number}
 use Rattle.leb128.specs.declared.Number.TheVariants.{Value, Refused}
-use Rattle.number.specs.Laws.{bytes_drop, decode_bound, extend_zero, extend_more, decode_one, decode_group}
+use Rattle.number.proofs.Laws.{bytes_drop, decode_bound, extend_zero, extend_more, decode_one, decode_group}
 
 -- A number may take a byte.
 pub some_byte : (k : ℕ) → suc k ≡ 0 → ⊥

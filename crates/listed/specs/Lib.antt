@@ -1,4 +1,2 @@
 -- What the services on lists of links promise, and laws about it.
 pub mod ListServices
-pub mod ListServiceLaws
-pub mod LentLaws

@@ -14,9 +14,9 @@ use Rattle.graph.specs.Rank.{cost_at}
 use Rattle.optimum.specs.Search.{Problem, Mates, Slots, mates_in, Search, search, turn, Progress, cheapest_of, hit_of, goal_of, worth, turned, given_up, augment_by}
 use Rattle.optimum.specs.Search.{augment, built}
 use Rattle.optimum.specs.Slackness.{Ranked, Valid}
-use Rattle.optimum.specs.SlotLaws.{HeldSlots, slot_below}
-use Rattle.optimum.specs.SearchLaws.{search_closed}
-use Rattle.optimum.specs.MatchingProof.{built_held, built_valid}
+use Rattle.optimum.proofs.SlotLaws.{HeldSlots, slot_below}
+use Rattle.optimum.proofs.SearchLaws.{search_closed}
+use Rattle.optimum.proofs.MatchingProof.{built_held, built_valid}
 use Rattle.search.specs.Board.{state_of, Ready, Explored}
 use Rattle.search.specs.BoardLaws.{Fits, FoundSearch, explored_found}
 use Rattle.slots.specs.Paired.{hit_in, ways, Pairing, PairPut}

@@ -8,7 +8,7 @@ use Rattle.loops.specs.TestLaws.{clash}
 use Rattle.bits.specs.BitLaws.{bit_zero}
 use Rattle.optimum.specs.Search.{Problem, mates_below, mates_in, unmatched, built}
 use Rattle.optimum.specs.Slackness.{Ranked, rank_weight}
-use Rattle.optimum.specs.MatchingProof.{weight_kept}
+use Rattle.optimum.proofs.MatchingProof.{weight_kept}
 use Rattle.matching.specs.Tables.{Holds, Tables, Sized, HoldsProgress}
 use Rattle.matching.specs.Build.{Safe, Weighs, Augmentable, Augmented, Buildable, Built}
 

@@ -7,7 +7,7 @@ use Rattle.loops.specs.Loop.{put}
 use Rattle.loops.specs.PutLaws.{put_same, put_other}
 use Rattle.bits.specs.Bit.{bit}
 use Rattle.optimum.specs.Search.{Problem, Slots, mates_in, Search, turn}
-use Rattle.optimum.specs.SlotLaws.{HeldSlots, mates_view, mates_none, held_more, slot_mate}
+use Rattle.optimum.proofs.SlotLaws.{HeldSlots, mates_view, mates_none, held_more, slot_mate}
 use Rattle.slots.specs.Paired.{PairPut}
 use Rattle.matching.specs.Tables.{Tables, tables, Sized, HoldsPairs}
 use Rattle.matching.specs.Build.{Clean}

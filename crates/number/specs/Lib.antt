@@ -1,3 +1,2 @@
 -- Canonical LEB128 numbers: their layout, and laws about it.
 pub mod Number
-pub mod Laws

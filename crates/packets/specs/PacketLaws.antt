@@ -12,7 +12,7 @@ use Rattle.loops.specs.Below.{choose}
 use Rattle.loops.specs.Loop.{put}
 use Rattle.number.specs.Number.{Decoded, extend, decode}
 use Rattle.number.specs.Number.Decoded.{number}
-use Rattle.number.specs.Laws.{decode_size}
+use Rattle.number.proofs.Laws.{decode_size}
 use Rattle.leb128.specs.Positions.{read_at, located_value, located_refused}
 use Rattle.leb128.specs.declared.Number.TheVariants as Read
 use Rattle.sheet.specs.Reading as Model
@@ -20,7 +20,7 @@ use Rattle.sheet.specs.Reading.{costs_at, with_code, with_link, entry_of}
 use Rattle.replay.specs.Log as Log
 use Rattle.replay.specs.Log.{stepped, heard, replayed}
 use Rattle.replay.specs.LogReading.{is_packet, read_log}
-use Rattle.replay.specs.LogLaws.{packet_is, is_packet_lem, log_end, log_unread, log_inside, log_barred, log_turn}
+use Rattle.replay.proofs.LogLaws.{packet_is, is_packet_lem, log_end, log_unread, log_inside, log_barred, log_turn}
 use Rattle.packets.specs.declared.Packet.TheVariants.{Step, Refused}
 use Rattle.packets.specs.Packets.{packet_from, packet_at}
 

@@ -13,10 +13,10 @@ use Rattle.frame.specs.Questions.{job_of, refusal}
 use Rattle.frame.specs.Answers.{no_pair, pair_from, answer_of, read_answer, judge_answer}
 use Rattle.frame.specs.AnswerMeaning.{answer_frame}
 use Rattle.frame.specs.Meaning.{Accepted}
-use Rattle.frame.specs.Accepted.{accepted}
+use Rattle.frame.proofs.Accepted.{accepted}
 use Rattle.frame.specs.Services.{Outcome}
-use Rattle.frame.specs.OwnAnswer.{own_certified, own_judged, own_read, own_size}
-use Rattle.frame.specs.Outcomes.{accepted_written}
+use Rattle.frame.proofs.OwnAnswer.{own_certified, own_judged, own_read, own_size}
+use Rattle.frame.proofs.Outcomes.{accepted_written}
 use Rattle.codec.specs.declared.Reply.{Reply}
 use Rattle.codec.specs.Numbers.{outcome}
 use Rattle.records.specs.Records.{zero_link}

@@ -15,9 +15,9 @@ use Rattle.frame.specs.Job.{Job, tree_of}
 use Rattle.frame.specs.Questions.{job_of, refusal}
 use Rattle.frame.specs.Answers.{no_pair, pair_from, read_answer, judge_answer}
 use Rattle.frame.specs.Meaning.{Accepted}
-use Rattle.frame.specs.Accepted.{accepted}
+use Rattle.frame.proofs.Accepted.{accepted}
 use Rattle.frame.specs.AnswerMeaning.{Certified}
-use Rattle.frame.specs.AnswerLayout.{layout_read}
+use Rattle.frame.proofs.AnswerLayout.{layout_read}
 use Rattle.links.specs.ColumnLaws.{zeros, zero_at}
 use Rattle.codec.specs.Numbers.{numbers_at}
 use Rattle.codec.specs.Held.{pairs_at, answer_at}

@@ -9,8 +9,8 @@ use Rattle.number.specs.Number.{Bytes}
 use Rattle.frame.specs.Job.{JobLink, Job, no_link, link, job_frame}
 use Rattle.frame.specs.Arrays.{Columns, link_at}
 use Rattle.frame.specs.Questions.{job_of, refusal}
-use Rattle.frame.specs.Form.{first_no}
-use Rattle.frame.specs.Accepted.{accepted, write_read6}
+use Rattle.frame.proofs.Form.{first_no}
+use Rattle.frame.proofs.Accepted.{accepted, write_read6}
 use Rattle.records.specs.declared.Link.{Link}
 use Rattle.records.specs.Records.{zero_link, first_links}
 use Rattle.records.specs.RecordsLaws.{firsts_none, firsts_more, firsts_all, firsts_length, firsts_at}

@@ -2,6 +2,3 @@
 pub mod Log
 pub mod LogReading
 pub mod Replaying
-pub mod LogLaws
-pub mod ReplayLaws
-pub mod Hearing

@@ -6,7 +6,7 @@ use Rattle.graph.specs.Graph.{Graph, EdgeSet, Sound, SpanningTree}
 use Rattle.graph.specs.Rank.{Lists, tree_ranks}
 use Rattle.graph.specs.RankLaws.{tree_lists}
 use Rattle.graph.specs.Paths.{judge}
-use Rattle.graph.specs.Tree.{own_rank}
+use Rattle.graph.proofs.Tree.{own_rank}
 use Rattle.frame.specs.Job.{Job, graph_of, tree_of, cost_of}
 use Rattle.frame.specs.Arrays.{Arrays}
 use Rattle.paths.specs.Arrays.{array_graph, array_tree, across}

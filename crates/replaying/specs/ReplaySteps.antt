@@ -13,8 +13,8 @@ use Rattle.frame.specs.Job.{Job, bytes_of, graph_of, tree_of, cost_of}
 use Rattle.frame.specs.Arrays.{Arrays}
 use Rattle.frame.specs.Services.{written}
 use Rattle.frame.specs.Questions.{job_of, refusal, later}
-use Rattle.frame.specs.Form.{later_refused}
-use Rattle.frame.specs.Outcomes.{served_of}
+use Rattle.frame.proofs.Form.{later_refused}
+use Rattle.frame.proofs.Outcomes.{served_of}
 use Rattle.codec.specs.declared.Reply.{Reply}
 use Rattle.codec.specs.Numbers.{numbers_at, outcome}
 use Rattle.codec.specs.WritingLaws.{put_refused}
@@ -26,7 +26,7 @@ use Rattle.sheet.specs.Reading.{is_some, costs_at}
 use Rattle.replay.specs.Log.{Packet, replayed}
 use Rattle.replay.specs.LogReading.{read_log}
 use Rattle.replay.specs.Replaying.{job_edges, replay_bytes, first_of}
-use Rattle.replay.specs.Hearing.{rest_unread, all_packets, all_read, all_costs, first_here, first_nowhere}
+use Rattle.replay.proofs.Hearing.{rest_unread, all_packets, all_read, all_costs, first_here, first_nowhere}
 use Rattle.watch.specs.declared.Heard.{Heard}
 use Rattle.violations.specs.Counting.{violations_by}
 use Rattle.watch.specs.Watching.{none_at, Watched}

@@ -9,18 +9,18 @@ use Rattle.frame.specs.Meaning.{Accepted}
 use Rattle.frame.specs.Services.{written}
 use Rattle.frame.specs.Questions.{job_of, refusal}
 use Rattle.frame.specs.Answers.{answer_of}
-use Rattle.frame.specs.Form.{later_first, later_none}
-use Rattle.frame.specs.Accepted.{accepted, cost_small}
-use Rattle.frame.specs.OwnAnswer.{own}
-use Rattle.frame.specs.Outcomes.{served_of, served_none}
+use Rattle.frame.proofs.Form.{later_first, later_none}
+use Rattle.frame.proofs.Accepted.{accepted, cost_small}
+use Rattle.frame.proofs.OwnAnswer.{own}
+use Rattle.frame.proofs.Outcomes.{served_of, served_none}
 use Rattle.sheet.specs.Sheet.{costs_frame}
 use Rattle.sheet.specs.Reading.{is_some}
-use Rattle.sheet.specs.SheetLaws.{costs_most_lem}
+use Rattle.sheet.proofs.SheetLaws.{costs_most_lem}
 use Rattle.replay.specs.Log.{Packet, LogOf, replayed, FirstCheapest}
 use Rattle.replay.specs.LogReading.{read_log}
 use Rattle.replay.specs.Replaying.{job_edges, replay_bytes, first_of}
-use Rattle.replay.specs.LogLaws.{log_means, log_found, log_size}
-use Rattle.replay.specs.ReplayLaws.{replayed_range, log_least, first_cheapest}
+use Rattle.replay.proofs.LogLaws.{log_means, log_found, log_size}
+use Rattle.replay.proofs.ReplayLaws.{replayed_range, log_least, first_cheapest}
 use Rattle.replaying.specs.declared.Replayed.{Replayed}
 use Rattle.replaying.specs.Replayed.{packets_told, replay_outcome, replay_for, replay_refusal, first_in, first_for, ReplayGiven, LogReplayed}
 

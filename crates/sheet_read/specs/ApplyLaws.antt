@@ -15,11 +15,11 @@ use Rattle.loops.specs.Loop.{put}
 use Rattle.loops.specs.TestLaws.{clash}
 use Rattle.number.specs.Number.{Bytes, decode}
 use Rattle.number.specs.Number.Decoded.{number}
-use Rattle.number.specs.Laws.{decode_size}
+use Rattle.number.proofs.Laws.{decode_size}
 use Rattle.leb128.specs.Positions.{read_at, located_value, located_refused}
 use Rattle.leb128.specs.declared.Number.TheVariants as Read
 use Rattle.frame.specs.Questions.{numbers}
-use Rattle.frame.specs.Division.{division}
+use Rattle.frame.proofs.Division.{division}
 use Rattle.division.specs.declared.Numbers.TheVariants as Counted
 use Rattle.division.specs.Counting.{count_from}
 use Rattle.division.specs.CountingLaws.{counted_some, counted_none}
@@ -29,8 +29,8 @@ use Rattle.sheet.specs.Sheet.{InRange}
 use Rattle.sheet.specs.Reading as Model
 use Rattle.sheet.specs.Reading.{costs_from, read_costs, costs_at, with_code, with_link, entry_of, change_from, cost_from, may_move, move_to, move_by}
 use Rattle.sheet.specs.Reading.{apply_from, behind_count, apply_sheet}
-use Rattle.sheet.specs.ChangeLaws.{cost_found}
-use Rattle.sheet.specs.EntryLaws.{entry_size}
+use Rattle.sheet.proofs.ChangeLaws.{cost_found}
+use Rattle.sheet.proofs.EntryLaws.{entry_size}
 use Rattle.sheet_read.specs.declared.Entry.{Entry}
 use Rattle.sheet_read.specs.declared.Entry.TheVariants.{Moved, Refused}
 use Rattle.sheet_read.specs.declared.Cost.TheVariants.{Inside, Outside}

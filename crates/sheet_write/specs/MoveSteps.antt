@@ -8,8 +8,8 @@ use Rattle.loops.specs.Loop.{gather}
 use Rattle.number.specs.Number.{encode}
 use Rattle.codec.specs.ListLaws.{gather_within}
 use Rattle.sheet.specs.Sheet.{Move, coded, move_of, moves_of}
-use Rattle.sheet.specs.EntryLaws.{entries_bytes}
-use Rattle.sheet.specs.MoveLaws.{entries_append}
+use Rattle.sheet.proofs.EntryLaws.{entries_bytes}
+use Rattle.sheet.proofs.MoveLaws.{entries_append}
 
 -- ---- the code of a change
 

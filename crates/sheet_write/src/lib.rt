@@ -5,7 +5,7 @@ ghost use Rattle.frame.specs.Services.{written};
 ghost use Rattle.codec.specs.Numbers.{Put, outcome};
 ghost use Rattle.sheet.specs.Sheet.{InRange, coded, moves_of, sheet_frame};
 ghost use Rattle.sheet.specs.Reading.{costs_at};
-ghost use Rattle.sheet.specs.EntryLaws.{entries_bytes};
+ghost use Rattle.sheet.proofs.EntryLaws.{entries_bytes};
 
 use codec::{Reply, refused};
 

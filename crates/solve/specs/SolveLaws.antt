@@ -15,16 +15,16 @@ use Rattle.graph.specs.Paths.{rooted, covers_rank}
 use Rattle.optimum.specs.Search.{Problem, Progress, unmatched, built, matching}
 use Rattle.optimum.specs.Lowest.{slot_marks}
 use Rattle.optimum.specs.Solve.{low_of, low_ranks, problem, new_costs, partners, pair_at, solve}
-use Rattle.optimum.specs.SlotLaws.{HeldSlots, slot_below}
-use Rattle.optimum.specs.MatchingProof.{built_held, built_valid, nothing_built}
-use Rattle.optimum.specs.Solution.{ranked}
-use Rattle.optimum.specs.Range.{pairs_few}
+use Rattle.optimum.proofs.SlotLaws.{HeldSlots, slot_below}
+use Rattle.optimum.proofs.MatchingProof.{built_held, built_valid, nothing_built}
+use Rattle.optimum.proofs.Solution.{ranked}
+use Rattle.optimum.proofs.Range.{pairs_few}
 use Rattle.limits.specs.Limits.{max_number, marks_spare}
 use Rattle.frame.specs.Job.{Job, graph_of, tree_of, cost_of}
 use Rattle.frame.specs.Arrays.{Arrays}
-use Rattle.frame.specs.Accepted.{cost_small}
+use Rattle.frame.proofs.Accepted.{cost_small}
 use Rattle.frame.specs.Answers.{answer_of}
-use Rattle.frame.specs.OwnAnswer.{own, own_layout}
+use Rattle.frame.proofs.OwnAnswer.{own, own_layout}
 use Rattle.codec.specs.Numbers.{numbers_at}
 use Rattle.codec.specs.Held.{answer_at}
 use Rattle.paths.specs.RootLaws.{path_below}

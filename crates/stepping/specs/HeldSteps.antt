@@ -10,7 +10,7 @@ use Rattle.frame.specs.Job.{Job, bytes_of, cost_of}
 use Rattle.frame.specs.Arrays.{Columns}
 use Rattle.frame.specs.Services.{written}
 use Rattle.frame.specs.Questions.{job_of, refusal, later}
-use Rattle.frame.specs.Form.{later_refused}
+use Rattle.frame.proofs.Form.{later_refused}
 use Rattle.codec.specs.Numbers.{numbers_at}
 use Rattle.codec.specs.WritingLaws.{put_refused}
 use Rattle.job.specs.declared.Header.{Header}
@@ -20,7 +20,7 @@ use Rattle.accept.specs.AcceptLaws.{accepted_number}
 use Rattle.accept.specs.ArrayLaws.{edges_most, costs_small}
 use Rattle.sheet.specs.Sheet.{Move, InRange, sheet_frame, moves_of, move_of, costs_frame}
 use Rattle.sheet.specs.Reading.{is_some, read_costs, apply_sheet, costs_at, sheet_bytes, costs_bytes}
-use Rattle.sheet.specs.SheetLaws.{costs_sound}
+use Rattle.sheet.proofs.SheetLaws.{costs_sound}
 use Rattle.stepping.specs.Stepping.{link_count, sheet_for, costs_for, sheet_refusal, costs_refusal, AskedCosts, SomeCosts}
 
 -- ---- an accepted job

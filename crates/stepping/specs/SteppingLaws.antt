@@ -14,15 +14,15 @@ use Rattle.frame.specs.Meaning.{Small, Divides, Accepted}
 use Rattle.frame.specs.AnswerMeaning.{Certified}
 use Rattle.frame.specs.Services.{written}
 use Rattle.frame.specs.Questions.{job_of, refusal}
-use Rattle.frame.specs.Form.{later_first, later_none}
-use Rattle.frame.specs.Accepted.{accepted, cost_small}
-use Rattle.frame.specs.Outcomes.{served_of, served_none}
+use Rattle.frame.proofs.Form.{later_first, later_none}
+use Rattle.frame.proofs.Accepted.{accepted, cost_small}
+use Rattle.frame.proofs.Outcomes.{served_of, served_none}
 use Rattle.codec.specs.declared.Reply.{Reply}
 use Rattle.codec.specs.Numbers.{outcome}
 use Rattle.sheet.specs.Sheet.{InRange, Translated, move_sum}
 use Rattle.sheet.specs.Reading.{is_some, sheet_bytes, costs_bytes}
-use Rattle.sheet.specs.SheetLaws.{sheet_found, costs_found, sheet_means, costs_means, translated_sheet, translated_costs}
-use Rattle.sheet.specs.SheetLaws.{translated_sum, translated_most, translated_costs_most, translated_costs_are}
+use Rattle.sheet.proofs.SheetLaws.{sheet_found, costs_found, sheet_means, costs_means, translated_sheet, translated_costs}
+use Rattle.sheet.proofs.SheetLaws.{translated_sum, translated_most, translated_costs_most, translated_costs_are}
 use Rattle.stepping.specs.Stepping.{link_count, sheet_for, costs_for, sheet_refusal, costs_refusal, SheetGiven, CostsGiven, SheetMade, SheetApplied}
 
 -- What is there was found.

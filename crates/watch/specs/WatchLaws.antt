@@ -10,8 +10,8 @@ use Rattle.sheet.specs.Sheet.{InRange}
 use Rattle.sheet.specs.Reading.{costs_at}
 use Rattle.replay.specs.Log.{Packet, stepped, heard}
 use Rattle.replay.specs.LogReading.{read_log}
-use Rattle.replay.specs.ReplayLaws.{heard_range}
-use Rattle.replay.specs.Hearing.{HeardTo, heard_more, heard_unread}
+use Rattle.replay.proofs.ReplayLaws.{heard_range}
+use Rattle.replay.proofs.Hearing.{HeardTo, heard_more, heard_unread}
 use Rattle.packets.specs.PacketLaws.{heard_set}
 use Rattle.violations.specs.Counting.{StepOf}
 use Rattle.watch.specs.Watching.{RangedCosts, Hears, none_at, Watched}

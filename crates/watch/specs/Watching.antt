@@ -4,7 +4,7 @@ use Rattle.std.proofs.Math.Option.{none}
 use Rattle.sheet.specs.Sheet.{InRange}
 use Rattle.sheet.specs.Reading.{costs_at}
 use Rattle.replay.specs.LogReading.{read_log}
-use Rattle.replay.specs.Hearing.{HeardTo}
+use Rattle.replay.proofs.Hearing.{HeardTo}
 use Rattle.violations.specs.Counting.{violations_by}
 use Rattle.watch.specs.declared.Heard.{Heard}
 

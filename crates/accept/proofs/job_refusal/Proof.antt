@@ -4,7 +4,7 @@ use native.Mathlib.Omega.{arith}
 use borrow.Author.Tests.{not-true, not-false}
 use Rattle.frame.specs.Job.{Job}
 use Rattle.frame.specs.Arrays.{Columns, columns}
-use Rattle.frame.specs.Lists.{Listed}
+use Rattle.frame.proofs.Lists.{Listed}
 use Rattle.held.specs.Held.{Stored}
 use Rattle.accept.specs.ArrayLaws.{TreeListed, edges_most, costs_small, links_wrong, links_right, tree_listed, count_few}
 use Rattle.accept.specs.ArrayLaws.{tree_ranked, tree_wrong, tree_right, tree_kept}

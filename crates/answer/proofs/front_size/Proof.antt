@@ -1,7 +1,7 @@
 -- `answer::front_size` meets its contract: the sizes of the three parts add up. Assumes nothing.
 use native.Mathlib.Omega.{arith}
 use borrow.Author.Rules.{rules}
-use Rattle.number.specs.Laws.{encode_size_most}
+use Rattle.number.proofs.Laws.{encode_size_most}
 use Rattle.limits.specs.Limits.{number_bytes, step_bytes}
 use Rattle.codec.specs.ListLaws.{size_short}
 use Rattle.codec.specs.HeldLaws.{front_length}

@@ -7,7 +7,7 @@ use borrow.Author.Rules.{rules}
 use lib.ListN.{length}
 use Rattle.loops.specs.Loop.{gather}
 use Rattle.number.specs.Number.{encode}
-use Rattle.number.specs.Laws.{encode_size_most}
+use Rattle.number.proofs.Laws.{encode_size_most}
 use Rattle.limits.specs.Limits.{number_bytes}
 use Rattle.frame.specs.Job.{bytes_of}
 use Rattle.codec.specs.Numbers.{numbers_at}

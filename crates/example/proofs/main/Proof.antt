@@ -12,7 +12,7 @@ use Rattle.frame.specs.Questions.{job_of, refusal}
 use Rattle.frame.specs.AnswerMeaning.{answer_frame}
 use Rattle.frame.specs.Answers.{answer_of}
 use Rattle.frame.specs.Services.{Outcome, written}
-use Rattle.frame.specs.Outcomes.{written_short}
+use Rattle.frame.proofs.Outcomes.{written_short}
 use borrow.Author.Tests.{le-leb}
 use Rattle.codec.specs.declared.Reply.{Reply}
 use Rattle.answering.specs.Answering.{Answered}

@@ -3,7 +3,7 @@ use Rattle.optimum.specs.Optimum.{Answer}
 use Rattle.frame.specs.Questions.{job_of}
 use Rattle.frame.specs.Answers.{judge_answer}
 use Rattle.frame.specs.AnswerMeaning.{Certified}
-use Rattle.listed.specs.LentLaws.{lent_as, lent_judged}
+use Rattle.listed.proofs.LentLaws.{lent_as, lent_judged}
 use Rattle.codes.specs.ExportLaws.{judged_sayable, code_told, list_sayable}
 use borrow.Author.Rules.{rules}
 use Rattle.ist_lists.proofs.judge_answer_copy.Statement.{statement}

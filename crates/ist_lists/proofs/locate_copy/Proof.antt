@@ -1,5 +1,5 @@
 -- `ist_lists::locate_copy` meets its contract: the part's offset and length. Assumes nothing.
-use Rattle.listed.specs.LentLaws.{lent_as, lent_located}
+use Rattle.listed.proofs.LentLaws.{lent_as, lent_located}
 use borrow.Author.Rules.{rules}
 use Rattle.ist_lists.proofs.locate_copy.Statement.{statement}
 use Rattle.ist_lists.proofs.locate_copy.Tie as tie

@@ -1,6 +1,6 @@
 -- `ist_writers::answer_copy` meets its contract: the reply's number and length. Assumes nothing.
 use mathlib.Core.Path.{refl}
-use Rattle.listed.specs.LentLaws.{lent_as, lent_answered}
+use Rattle.listed.proofs.LentLaws.{lent_as, lent_answered}
 use Rattle.codes.specs.ExportLaws.{number_told, list_answered_most}
 use borrow.Author.Rules.{rules}
 use Rattle.ist_writers.proofs.answer_copy.Statement.{statement}

@@ -3,7 +3,7 @@ use Prim.Native.Nat.{◌/◌}
 use native.Mathlib.Omega.{arith}
 use mathlib.Core.Path.{sym}
 use borrow.Author.Rules.{rules}
-use Rattle.number.specs.Laws.{encode_size_last, encode_size_more, encode_size_most}
+use Rattle.number.proofs.Laws.{encode_size_last, encode_size_more, encode_size_most}
 use Rattle.leb128_write.proofs.size_long.Statement.{statement}
 use Rattle.leb128_write.proofs.size_long.Tie as tie
 

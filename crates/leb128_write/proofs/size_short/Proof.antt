@@ -2,7 +2,7 @@
 use Prim.Native.Nat.{suc, ◌/◌}
 use native.Mathlib.Omega.{arith}
 use mathlib.Core.Path.{sym, ap, ◌∙◌}
-use Rattle.number.specs.Laws.{encode_size_last, encode_size_more, encode_size_pos, encode_size_most}
+use Rattle.number.proofs.Laws.{encode_size_last, encode_size_more, encode_size_pos, encode_size_most}
 use Rattle.leb128_write.proofs.size_short.Statement.{statement}
 use Rattle.leb128_write.proofs.size_short.Tie as tie
 

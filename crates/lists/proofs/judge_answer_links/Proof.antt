@@ -1,6 +1,6 @@
 -- `lists::judge_answer_links` meets its contract: the list is asked the six questions as its frame would be. Assumes nothing.
 use Rattle.judging.specs.Verdicts.{AnswerJudged}
-use Rattle.listed.specs.ListServiceLaws.{given_judged}
+use Rattle.listed.proofs.ListServiceLaws.{given_judged}
 use borrow.Author.Rules.{rules}
 use Rattle.lists.proofs.judge_answer_links.Statement.{statement}
 use Rattle.lists.proofs.judge_answer_links.Tie as tie

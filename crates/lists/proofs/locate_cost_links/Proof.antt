@@ -1,5 +1,5 @@
 -- `lists::locate_cost_links` meets its contract: the list is asked the six questions as its frame would be. Assumes nothing.
-use Rattle.listed.specs.ListServiceLaws.{given_located}
+use Rattle.listed.proofs.ListServiceLaws.{given_located}
 use borrow.Author.Rules.{rules}
 use Rattle.lists.proofs.locate_cost_links.Statement.{statement}
 use Rattle.lists.proofs.locate_cost_links.Tie as tie

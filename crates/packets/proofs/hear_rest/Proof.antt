@@ -13,7 +13,7 @@ use Rattle.replay.specs.Log.{replayed}
 use Rattle.replay.specs.LogReading.{read_log}
 use Rattle.packets.specs.declared.Packet.TheVariants.{Step}
 use Rattle.packets.specs.Packets.{packet_at}
-use Rattle.replay.specs.ReplayLaws.{stepped_small}
+use Rattle.replay.proofs.ReplayLaws.{stepped_small}
 use Rattle.packets.specs.PacketLaws.{heard_set, packet_inside, packet_within, hear_refused, hear_turn, hear_end}
 use Rattle.packets.proofs.hear_rest.Statement.{statement}
 use Rattle.packets.proofs.hear_rest.Tie as tie

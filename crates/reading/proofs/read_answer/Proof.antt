@@ -7,7 +7,7 @@ use denote.Enum.Declared
 use Rattle.number.specs.Number.{Bytes}
 use Rattle.frame.specs.Questions.{job_of}
 use Rattle.frame.specs.Answers.{read_answer}
-use Rattle.frame.specs.AnswerLayout.{layout_read}
+use Rattle.frame.proofs.AnswerLayout.{layout_read}
 use Rattle.frame.specs.Arrays.{arrays}
 use Rattle.held.specs.HeldLaws.{few_links}
 use Rattle.accept.specs.Accepting.{Asked}

@@ -10,7 +10,7 @@ use borrow.Author.Tests.{not-false, not-true}
 use Rattle.loops.specs.PutLaws.{set_put}
 use Rattle.sheet.specs.Sheet.{InRange}
 use Rattle.sheet.specs.Reading.{may_move, apply_from, apply_sheet, costs_at}
-use Rattle.sheet.specs.EntryLaws.{moves_may}
+use Rattle.sheet.proofs.EntryLaws.{moves_may}
 use Rattle.sheet_read.specs.declared.Entry.TheVariants.{Moved}
 use Rattle.sheet_read.specs.Applying.{entry_at}
 use Rattle.sheet_read.specs.ApplyLaws.{no_count, count_read, inside_small, entry_within, in_range_set}

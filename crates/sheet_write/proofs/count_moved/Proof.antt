@@ -7,7 +7,7 @@ use lib.ListN.{length}
 use Rattle.loops.specs.Loop.{gather}
 use Rattle.sheet.specs.Sheet.{moves_of}
 use Rattle.sheet.specs.Reading.{costs_at}
-use Rattle.sheet.specs.MoveLaws.{moves_few}
+use Rattle.sheet.proofs.MoveLaws.{moves_few}
 use Rattle.sheet_write.specs.MoveSteps.{moves_stay, moves_count}
 use Rattle.sheet_write.proofs.count_moved.Statement.{statement}
 use Rattle.sheet_write.proofs.count_moved.Tie as tie

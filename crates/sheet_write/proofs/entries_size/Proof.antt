@@ -8,11 +8,11 @@ use lib.ListN.{length as size}
 use borrow.Author.Rules.{rules}
 use Rattle.limits.specs.Limits.{change_bytes}
 use Rattle.loops.specs.Loop.{gather}
-use Rattle.number.specs.Laws.{encode_size_most}
+use Rattle.number.proofs.Laws.{encode_size_most}
 use Rattle.sheet.specs.Sheet.{Move, moves_of}
 use Rattle.sheet.specs.Reading.{costs_at}
-use Rattle.sheet.specs.EntryLaws.{entries_bytes}
-use Rattle.sheet.specs.MoveLaws.{entries_most}
+use Rattle.sheet.proofs.EntryLaws.{entries_bytes}
+use Rattle.sheet.proofs.MoveLaws.{entries_most}
 use Rattle.sheet_write.specs.MoveSteps.{moves_stay, moves_size}
 use Rattle.sheet_write.proofs.entries_size.Statement.{statement}
 use Rattle.sheet_write.proofs.entries_size.Tie as tie

@@ -14,7 +14,7 @@ use Rattle.codec.specs.Numbers.{Put}
 use Rattle.codec.specs.WritingLaws.{put_more, put_room}
 use Rattle.sheet.specs.Sheet.{moves_of}
 use Rattle.sheet.specs.Reading.{costs_at}
-use Rattle.sheet.specs.EntryLaws.{entries_bytes}
+use Rattle.sheet.proofs.EntryLaws.{entries_bytes}
 use Rattle.sheet_write.specs.MoveSteps.{moves_stay, moves_bytes, moves_size, entries_within}
 use Rattle.sheet_write.proofs.put_moves.Statement.{statement}
 use Rattle.sheet_write.proofs.put_moves.Tie as tie

@@ -9,13 +9,13 @@ use lib.ListN.{length, length-append}
 use borrow.Author.Rules.{rules}
 use Rattle.limits.specs.Limits.{change_bytes}
 use Rattle.number.specs.Number.{encode}
-use Rattle.number.specs.Laws.{encode_size_most}
+use Rattle.number.proofs.Laws.{encode_size_most}
 use Rattle.codec.specs.Numbers.{Put}
 use Rattle.codec.specs.WritingLaws.{put_more, put_room, put_short, put_whole}
 use Rattle.sheet.specs.Sheet.{Move, moves_of, sheet_frame}
 use Rattle.sheet.specs.Reading.{costs_at}
-use Rattle.sheet.specs.EntryLaws.{entries_bytes, sheet_parts}
-use Rattle.sheet.specs.MoveLaws.{entries_most, sheet_short}
+use Rattle.sheet.proofs.EntryLaws.{entries_bytes, sheet_parts}
+use Rattle.sheet.proofs.MoveLaws.{entries_most, sheet_short}
 use Rattle.sheet_write.proofs.write_sheet.Statement.{statement}
 use Rattle.sheet_write.proofs.write_sheet.Tie as tie
 

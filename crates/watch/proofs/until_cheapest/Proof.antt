@@ -8,7 +8,7 @@ use lib.ListN.{length}
 use borrow.Author.Rules.{rules}
 use Rattle.sheet.specs.Reading.{costs_at}
 use Rattle.replay.specs.Log.{Packet}
-use Rattle.replay.specs.Hearing.{HeardTo, heard_none}
+use Rattle.replay.proofs.Hearing.{HeardTo, heard_none}
 use Rattle.packets.specs.declared.Packet.TheVariants.{Step}
 use Rattle.packets.specs.Packets.{packet_at}
 use Rattle.packets.specs.PacketLaws.{packet_refused, packet_inside, packet_within, packet_rest}

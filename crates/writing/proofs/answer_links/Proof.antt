@@ -1,5 +1,5 @@
 -- `writing::answer_links` meets its contract: the list is asked the six questions as its frame would be. Assumes nothing.
-use Rattle.listed.specs.ListServiceLaws.{given_answered}
+use Rattle.listed.proofs.ListServiceLaws.{given_answered}
 use borrow.Author.Rules.{rules}
 use Rattle.writing.proofs.answer_links.Statement.{statement}
 use Rattle.writing.proofs.answer_links.Tie as tie

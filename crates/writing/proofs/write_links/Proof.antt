@@ -1,6 +1,6 @@
 -- `writing::write_links` meets its contract: the writer's core is handed the first refusal and the job in the arrays.
 -- Assumes nothing.
-use Rattle.listed.specs.ListServiceLaws.{given_few, given_written}
+use Rattle.listed.proofs.ListServiceLaws.{given_few, given_written}
 use borrow.Author.Rules.{rules}
 use Rattle.writing.proofs.write_links.Statement.{statement}
 use Rattle.writing.proofs.write_links.Tie as tie

@@ -1,0 +1,11 @@
+pub mod Accepted
+pub mod AnswerJudge
+pub mod AnswerLayout
+pub mod Division
+pub mod Finders
+pub mod Form
+pub mod Lists
+pub mod Outcomes
+pub mod OwnAnswer
+pub mod RoundTrip
+pub mod Unplugged

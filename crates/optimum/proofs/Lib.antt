@@ -1,0 +1,15 @@
+pub mod Augment
+pub mod Demand
+pub mod Duality
+pub mod Invariant
+pub mod Labelling
+pub mod LowestProof
+pub mod Matched
+pub mod MatchingProof
+pub mod Range
+pub mod RankCriterion
+pub mod Reindex
+pub mod SearchLaws
+pub mod SlotLaws
+pub mod Solution
+pub mod SolveProof

@@ -1,0 +1,3 @@
+pub mod Hearing
+pub mod LogLaws
+pub mod ReplayLaws

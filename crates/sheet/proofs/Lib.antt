@@ -1,0 +1,4 @@
+pub mod ChangeLaws
+pub mod EntryLaws
+pub mod MoveLaws
+pub mod SheetLaws
