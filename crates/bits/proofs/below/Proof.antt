@@ -4,10 +4,10 @@ use Rattle.bits.specs.BitLaws.{one_above, bit_below}
 use Rattle.bits.proofs.below.Statement.{statement}
 use Rattle.bits.proofs.below.Tie as tie
 
-shl-result : tie.Need-overflow-shl-result
+shl-result : tie.Need-overflow_shl-result
 shl-result c = search rules
 
-sub-result : tie.Need-overflow-sub-result
+sub-result : tie.Need-overflow_sub-result
 sub-result c = one_above 64 c.args.i c.requires
 
 returns : tie.Need-returns

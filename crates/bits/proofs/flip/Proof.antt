@@ -8,7 +8,7 @@ use Rattle.bits.specs.BitLaws.{bit_of_xor, bit_single}
 use Rattle.bits.proofs.flip.Statement.{statement}
 use Rattle.bits.proofs.flip.Tie as tie
 
-shl-result : tie.Need-overflow-shl-result
+shl-result : tie.Need-overflow_shl-result
 shl-result c = search rules
 
 returns : tie.Need-returns

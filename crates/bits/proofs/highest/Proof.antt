@@ -5,7 +5,7 @@ use Rattle.bits.specs.BitLaws.{leading_last}
 use Rattle.bits.proofs.highest.Statement.{statement}
 use Rattle.bits.proofs.highest.Tie as tie
 
-sub-result : tie.Need-overflow-sub-result
+sub-result : tie.Need-overflow_sub-result
 sub-result c = omega (arith, (leading_last 64 c.args.w c.requires c.ranges.w.fits).0)
 
 returns : tie.Need-returns

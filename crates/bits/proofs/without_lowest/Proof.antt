@@ -4,7 +4,7 @@ use Rattle.bits.specs.BitLaws.{bit_cleared}
 use Rattle.bits.proofs.without_lowest.Statement.{statement}
 use Rattle.bits.proofs.without_lowest.Tie as tie
 
-sub-result : tie.Need-overflow-sub-result
+sub-result : tie.Need-overflow_sub-result
 sub-result c = search rules
 
 returns : tie.Need-returns
