@@ -1,4 +1,6 @@
 // A word as a set of numbers below 64: number i is a member if digit i is set (specs/Bit.antt).
+#![tactic(auto)]
+
 ghost use Rattle.std.specs.Prelude.{◌≡◌, not, ◌&&◌, ◌||◌, ℕ, ◌<◌, eqb, ltb};
 ghost use Rattle.std.specs.Bool.{xor};
 ghost use Rattle.loops.specs.Loop.{first, last};

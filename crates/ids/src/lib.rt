@@ -1,4 +1,5 @@
 // Numbers of different kinds, each with a type of its own: none is taken for another.
+#![tactic(auto)]
 
 // A station's number.
 #[derive(Drop)]

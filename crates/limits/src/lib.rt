@@ -1,5 +1,7 @@
 // The limits and the marks of the format, once for all code. specs/Limits.antt has them for the definitions: a function whose
 // constant differed from its definition's would not be proved.
+#![tactic(auto)]
+
 ghost use Rattle.std.specs.Prelude.{◌≡◌};
 ghost use Rattle.limits.specs.Limits.{marks_tree, marks_spare};
 

@@ -1,6 +1,6 @@
 -- What loops over the numbers below a bound compute: a state, the first hit, a list; with what stands in Below.
 -- Definitions only. Assumes nothing.
-use Rattle.std.specs.Prelude.{ℕ, zero, suc, ◌+◌, Bool, cond, List, [], ◌∷◌, ◌++◌, ltb, eqb}
+use Rattle.std.specs.Prelude.{ℕ, zero, suc, Bool, cond, List, [], ◌∷◌, ◌++◌, ltb, eqb}
 
 -- The state after `turns` turns of a loop that starts at i: body i, then body (suc i), and so on.
 unfoldable pub scan : {A : Type 0} → (ℕ → A → A) → ℕ → ℕ → A → A

@@ -1,6 +1,6 @@
 -- Laws of tests: a truth value is one of two, what "and", "or" and "exclusive or" mean, what a choice comes to, and a test of
 -- all numbers below a bound holds if it holds of each. Assumes nothing.
-use Rattle.std.specs.Prelude.{ℕ, zero, suc, ◌+◌, ◌-◌, ◌<◌, ◌≡◌, refl, ◌↔◌, ◌≢◌, ◌⊎◌, Bool, true, false, cond, not, ◌&&◌, ◌||◌}
+use Rattle.std.specs.Prelude.{ℕ, zero, suc, ◌+◌, ◌<◌, ◌≡◌, refl, ◌↔◌, ◌≢◌, ◌⊎◌, Bool, true, false, cond, not, ◌&&◌, ◌||◌}
 use Rattle.std.proofs.Math.Decide.{dec_lt}
 use Rattle.std.proofs.Common.{add-one, arith, subst, sym, inl, inr}
 use Rattle.std.proofs.Math.Bool.{xor}

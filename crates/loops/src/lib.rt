@@ -1,1 +1,3 @@
+#![tactic(auto)]
+
 // Theory only: what loops compute stands in specs/.

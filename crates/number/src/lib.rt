@@ -1,1 +1,3 @@
+#![tactic(auto)]
+
 // Theory only: the layout of numbers stands in specs/.

@@ -16,7 +16,7 @@ use Rattle.loops.specs.ScanLaws.{scan_leaves, scan_writes, scan_keeps}
 use Rattle.loops.specs.SumLaws.{sum_same, sum_zero, sum_plus, sum_over}
 use Rattle.loops.specs.Ordered.{Ordered}
 use Rattle.loops.specs.GatherLaws.{gather_has, gather_from, gather_ordered, gather_sum}
-use Rattle.graph.specs.Graph.{Graph, EdgeSet, NoneTwice, spare_of}
+use Rattle.graph.specs.Graph.{Graph, EdgeSet, NoneTwice}
 use Rattle.graph.specs.Rank.{tree_ranks, Lists}
 use Rattle.graph.specs.RankLaws.{by_falling, by_rising, ranks_list, ranks_rise, ranks_sum, tree_lists, tree_falls}
 use Rattle.optimum.specs.Optimum.{Costs, deviation, Pair, both, weight, Rising, Falls}

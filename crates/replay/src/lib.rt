@@ -1,1 +1,3 @@
+#![tactic(auto)]
+
 // Packet logs over a job: definitions, model and theorems are in specs/.

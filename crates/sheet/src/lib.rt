@@ -1,1 +1,3 @@
+#![tactic(auto)]
+
 // Theory only: step sheets, their layout, their reader and their laws stand in specs/.
