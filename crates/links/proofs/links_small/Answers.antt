@@ -38,7 +38,7 @@ returns-then-mark-e-gt-MOST_NUMBER c =
     let h = columns c.args.end1.now c.args.end2.now c.args.cost.now c.args.mark.now in
     sym (all_miss c.args.edges (small_at h) c.loop-e.e c.loop-e-test.true
     (large_mark (link_at h c.loop-e.e) c.if-end1-e-gt-MOST_NUMBER.false c.if-end2-e-gt-MOST_NUMBER.false
-    c.if-cost-e-gt-MOST_NUMBER.false c.if-mark-e-gt-MOST_NUMBER.true))
+    (omega arith) c.if-mark-e-gt-MOST_NUMBER.true))
 
 pub loop-e-preserved : goal.loop-e-preserved
 loop-e-preserved c =
@@ -46,5 +46,5 @@ loop-e-preserved c =
       omega arith,
       all_more c.loop-e.e (small_at h) c.loop-e.invariant.1
           (small_holds (link_at h c.loop-e.e) c.if-end1-e-gt-MOST_NUMBER.false c.if-end2-e-gt-MOST_NUMBER.false
-          c.if-cost-e-gt-MOST_NUMBER.false c.if-mark-e-gt-MOST_NUMBER.false),
+          (omega arith) c.if-mark-e-gt-MOST_NUMBER.false),
     )
