@@ -1,12 +1,13 @@
-// Links as records, lent as a list: the first 256 are copied into an array, and every number is tested. The borrow
-// checker does not cover a function over such a list: `copy_list` is proved by hand, and kept small.
+// Links as records, lent as a list: the first 256 are copied into an array, and every number is tested.
+#![tactic(auto)]
+
 ghost use Rattle.std.specs.Prelude.{◌≡◌, min, ◌&&◌, length};
 ghost use Rattle.records.specs.Records.{column_put, small_link, list_copy};
 
 use limits::{MOST_COUNT, MOST_NUMBER, TOO_LONG};
 
 #[repr(C)]
-#[derive(Drop)]
+#[derive(Clone, Copy)]
 pub struct Link {
     pub end1: u32,
     pub end2: u32,
@@ -41,7 +42,7 @@ fn at_most(n: usize, most: usize) -> usize
 
 // What is handed on of a lent list: its length, whether every number is at most 2,097,151, and its first 256 links, zeros behind
 // the last.
-#[derive(Drop)]
+#[derive(Clone, Copy)]
 pub struct ListCopy {
     pub count: usize,
     pub small: bool,

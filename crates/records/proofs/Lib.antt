@@ -1,2 +1,0 @@
-pub mod LinkRows
-pub mod Told
