@@ -1,4 +1,6 @@
 // The steps of the costs that an answer names, the order and the weight of the pairs that it lists (specs/Weighing.antt).
+#![tactic(auto)]
+
 ghost use Rattle.std.specs.Prelude.{◌≡◌, ◌-◌, ◌≤◌, ◌<◌, get_or};
 ghost use Rattle.loops.specs.Below.{all_below, sum};
 ghost use Rattle.frame.specs.Answers.{gap};
