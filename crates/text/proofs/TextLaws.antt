@@ -1,12 +1,13 @@
--- The digits that `io` makes are those of the definition, and how long the lines are. Assumes nothing.
+-- The digits that the library makes are those of the definition, and how long the lines are. Assumes nothing.
 use Rattle.std.specs.Prelude.{ℕ, zero, suc, ◌+◌, ◌/◌, ◌%◌, ◌^◌, ◌*◌, ◌-◌, ◌≤◌, ◌<◌, ◌≡◌, refl, List, [], ◌∷◌, ◌++◌, length, take, drop}
-use Rattle.std.proofs.Common.{arith, mod-eq_of_lt, mod-lt, pow-suc, suc-mul, sym, ap, ap₂, ◌∙◌, append_assoc, append-nil, length-append, length-drop, drop_of_length-le, take_at, take_all, drop-drop, lt-ltb, le-ltb}
-use Rattle.std.proofs.Math.Decide.{dec_lt, dec_le}
+use Rattle.std.proofs.Common.{arith, pow-suc, suc-mul, sym, ap, ap₂, ◌∙◌, append_assoc, length-append, take_at, drop-drop, lt-ltb, le-ltb}
+use Rattle.std.proofs.Math.Decide.{dec_lt}
 use Rattle.std.proofs.lemmas.List.Edits.{sets, sets-eq}
-use Rattle.std.proofs.Math.Seq.{length-sets, take-length}
-use borrow.Rule.Slice.PartMut.{put_mid, mid_of, post_of}
+use Rattle.std.proofs.Math.Seq.{length-sets}
+use borrow.Rule.Slice.PartMut.{put_mid}
 use Rattle.loops.specs.Loop.{gather}
-use Rattle.io.specs.Digits.{hex_digit_ascii, last_digits, IsDigitCount}
+use Rattle.std.specs.Fmt.{decimal as digits}
+use Rattle.std.proofs.lemmas.Fmt.{decimal_digit, decimal_step}
 use Rattle.codec.specs.Numbers.{Put}
 use Rattle.text.specs.Text.{decimal_in, decimal, space, end, pair_word, word_line, cost_line, pair_line, cost_lines, pair_lines}
 
@@ -22,58 +23,27 @@ decimal_most (suc k) n =
           (omega (arith, length-append (decimal_in k (n / 10)) ((48 + n % 10) ∷ []), decimal_most k (n / 10)))
     ]
 
-glyph_digit : (d : ℕ) → d < 10 → hex_digit_ascii d ≡ 48 + d
-glyph_digit d l = rw (lt-ltb d 10 l)
-
-power_positive : (k : ℕ) → 1 ≤ 10 ^ k
-power_positive zero = omega arith
-power_positive (suc k) = omega (arith, pow-suc 10 k, power_positive k)
-
-power_more : (i d : ℕ) → 10 ^ i ≤ 10 ^ (i + d)
-power_more i zero = let same : i + 0 ≡ i = omega arith in rw same (omega arith)
-power_more i (suc d) =
-    let next : i + suc d ≡ suc (i + d) = omega arith in
-    rw next (omega (arith, power_more i d, pow-suc 10 (i + d)))
-
--- A number of 32 bits has at most 20 digits (and indeed 10).
-pub fewest_most : (k n : ℕ) → IsDigitCount 10 1 n k → n < 2 ^ 32 → k ≤ 20
-fewest_most k n f l =
-    elim (dec_le k 20) [
-      | yes m ↦ m
-      | no m ↦
-          let more : 20 + (k - 21) ≡ k - 1 = omega arith in
-          let large : 10 ^ 20 ≤ 10 ^ (k - 1) = rw more at (power_more 20 (k - 21)) in
-          absurd (omega (arith, large, f.2 (omega arith)))
+-- The digits that the library makes of a number are those of the definition.
+pub digits_decimal : (most n : ℕ) → n < 10 ^ suc most → n < 2 ^ 64 → digits n ≡ decimal_in (suc most) n
+unfolding decimal_in
+digits_decimal zero n l f = rw (lt-ltb n 10 l) (decimal_digit n l)
+digits_decimal (suc most) n l f =
+    elim (dec_lt n 10) [
+      | yes small ↦ rw (lt-ltb n 10 small) (decimal_digit n small)
+      | no large ↦
+          let tenth : digits (n / 10) ≡ decimal_in (suc most) (n / 10)
+          = digits_decimal most (n / 10) (omega (arith, l, pow-suc 10 (suc most))) (omega arith) in
+          rw (le-ltb n 10 (omega arith)) (decimal_step n (omega arith) f ∙ ap (λ (ds : List ℕ). ds ++ ((48 + n % 10) ∷ [])) tenth)
     ]
 
-pub digits_decimal : (most k n : ℕ) → k ≤ most → IsDigitCount 10 1 n k → last_digits 10 k n ≡ decimal_in most n
-unfolding decimal_in
-digits_decimal most zero n l f = absurd (omega (arith, f.0))
-digits_decimal zero (suc k) n l f = absurd (omega arith)
-digits_decimal (suc most) (suc zero) n l f =
-    let small : n < 10 = f.1 in
-    let same : n % 10 ≡ n = mod-eq_of_lt small in
-    rw (lt-ltb n 10 small) (ap (λ (d : ℕ). d ∷ []) (ap hex_digit_ascii same ∙ glyph_digit n small))
-digits_decimal (suc most) (suc (suc k)) n l f =
-    let before : suc (suc k) - 1 ≡ suc k = omega arith in
-    let least : 10 ^ suc k ≤ n = rw before at (f.2 (omega arith)) in
-    let same : suc k - 1 ≡ k = omega arith in
-    let tenth : IsDigitCount 10 1 (n / 10) (suc k) =
-    (omega arith, omega (arith, f.1, pow-suc 10 (suc k)), λ _. rw same (omega (arith, least, pow-suc 10 k))) in
-    rw (le-ltb n 10 (omega (arith, least, pow-suc 10 k, power_positive k)))
-    (ap₂ ◌++◌ (digits_decimal most (suc k) (n / 10) (omega arith) tenth) (ap (λ (d : ℕ). d ∷ []) (glyph_digit (n % 10) (mod-lt n (omega arith)))))
-
--- Bytes copied to the part of a buffer that begins at a place are stores from that place on.
+-- Bytes copied to a part of a buffer are stores from where the part begins.
 pub part_copied :
     (out part : List ℕ) (at : ℕ) →
     at + length part ≤ length out →
-    put_mid at (length out - at) out (take (length part) part ++ drop (length part) (mid_of at (length out - at) out)) ≡ sets out at part
+    put_mid at (at + length part - at) out part ≡ sets out at part
 part_copied out part at l =
-    let mid : mid_of at (length out - at) out ≡ drop at out = take_all (length out - at) (drop at out) (omega (arith, length-drop at out)) in
-    let post : post_of at (length out - at) out ≡ [] = drop_of_length-le (drop at out) {i = length out - at} (omega (arith, length-drop at out)) in
-    rw (mid, post, take-length part, sets-eq part out at l, drop-drop (length part) at out)
-    (ap (λ (l : List ℕ). take at out ++ l) (append-nil (part ++ drop (at + length part) out)) ∙
-    sym (append_assoc (take at out) part (drop (at + length part) out)))
+    let size : at + length part - at ≡ length part = omega arith in
+    rw (size, sets-eq part out at l, drop-drop (length part) at out) (sym (append_assoc (take at out) part (drop (at + length part) out)))
 
 -- How long the parts of a line are, and the lines.
 pub number_most : (n : ℕ) (behind : List ℕ) → length (decimal n ++ behind) ≤ 20 + length behind
