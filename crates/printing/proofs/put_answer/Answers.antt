@@ -10,7 +10,7 @@ use Rattle.printing.proofs.put_answer.Goals.{After-put_links-q}
 
 pub put_links-q-requires-clause-count_in_bounds : goal.put_links-q-requires-clause-count_in_bounds
 put_links-q-requires-clause-count_in_bounds c =
-    put_room _ _ _ _ _ _ c.put_word-p.ensures (omega (arith, word_line_most total_word c.args.answer.steps))
+    put_room _ _ _ _ _ _ c.put_word-p.ensures (omega (arith, word_line_most total_word))
 
 -- The steps and the links are put.
 two :
