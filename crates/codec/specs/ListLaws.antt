@@ -14,7 +14,7 @@ use Rattle.limits.specs.Limits.{number_bytes}
 use Rattle.frame.specs.Job.{bytes_of}
 use Rattle.frame.specs.Meaning.{Divides}
 use Rattle.frame.proofs.RoundTrip.{flat_map_append}
-use Rattle.frame.proofs.OwnAnswer.{bytes_most}
+use Rattle.frame.proofs.AnswerSize.{bytes_most}
 use Rattle.codec.specs.declared.Taken.{Taken}
 use Rattle.codec.specs.Numbers.{taken_at, numbers_at, Loaded, loaded_at, load}
 use Rattle.codec.specs.NumberLaws.{next_number}

@@ -1,4 +1,6 @@
 // Numbers in a frame, one behind the other: read, passed over, measured and written.
+#![tactic(auto)]
+
 ghost use Rattle.std.specs.Prelude.{◌≡◌, ◌+◌, ◌≤◌, length};
 ghost use Rattle.frame.specs.Job.{bytes_of};
 ghost use Rattle.frame.specs.Services.{written};

@@ -15,7 +15,7 @@ use Rattle.graph.specs.RankLaws.{ranks_list, ranks_rise, by_rising}
 use Rattle.graph.specs.CountLaws.{count_below}
 use Rattle.paths.specs.WordLaws.{lowest_below, lowest_set, lowest_before}
 use Rattle.ranks.specs.Keys.{of_edge, key_at, Collected}
-use Rattle.ranks.specs.KeysLaws.{members_same, collect_none, collect_with, collect_without}
+use Rattle.ranks.proofs.KeysLaws.{members_same, collect_none, collect_with, collect_without}
 use Rattle.covering.specs.Covers.{covers, dearest_of, undercutting, is_low, low_list, RanksRise, Ends, Crossed, LowRanked, ColumnsHold}
 
 module _ {trees edges : ℕ} {cost ts end₁ end₂ mask : List ℕ} (h : Crossed trees edges cost ts end₁ end₂ mask) where

@@ -1,4 +1,6 @@
 // Question 1: how many numbers a frame divides into.
+#![tactic(auto)]
+
 ghost use Rattle.std.specs.Prelude.{◌≡◌, true, ◌+◌, ◌≤◌, ◌<◌, length};
 ghost use Rattle.loops.specs.Below.{all_below, sum};
 ghost use Rattle.frame.specs.Questions.{numbers};

@@ -6,6 +6,7 @@ pub mod Finders
 pub mod Form
 pub mod Lists
 pub mod Outcomes
+pub mod AnswerSize
 pub mod OwnAnswer
 pub mod RoundTrip
 pub mod Unplugged

@@ -1,4 +1,6 @@
 // The next spare rank over a set of tree ranks (specs/Over.antt).
+#![tactic(auto)]
+
 ghost use Rattle.std.specs.Prelude.{◌≡◌, ℕ, ◌+◌, ◌≤◌, ltb, get_or};
 ghost use Rattle.loops.specs.Loop.{first};
 ghost use Rattle.bits.specs.Bit.{bit};

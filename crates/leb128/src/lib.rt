@@ -1,4 +1,6 @@
 // Canonical LEB128 numbers in slices, read at a position. The layout is that of specs/Number.antt in crate `number`.
+#![tactic(auto)]
+
 ghost use Rattle.std.specs.Prelude.{◌≡◌};
 ghost use Rattle.leb128.specs.Positions.{read_at, Stands};
 ghost use Rattle.leb128.specs.declared.Number.TheVariants.{Value};

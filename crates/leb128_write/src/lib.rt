@@ -1,5 +1,7 @@
 // Canonical LEB128 numbers in slices, measured and written at a position. The layout is that of specs/Number.antt in crate
 // `number`.
+#![tactic(auto)]
+
 ghost use Rattle.std.specs.Prelude.{◌≡◌, [], ◌∷◌, ◌+◌, ◌≤◌, length};
 ghost use Rattle.std.proofs.lemmas.List.Edits.{sets};
 ghost use Rattle.number.specs.Number.{encode};

@@ -1,4 +1,6 @@
 // Questions 1, 2, 4 and 5 over links held in arrays.
+#![tactic(auto)]
+
 ghost use Rattle.std.specs.Prelude.{◌≡◌, ◌≤◌, min};
 ghost use Rattle.limits.specs.Limits.{max_edges};
 ghost use Rattle.links.specs.Columns.{ends_apart, ends_hold, marks_hold, links_refusal, Places, links_small};

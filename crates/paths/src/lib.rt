@@ -1,4 +1,6 @@
 // Tree paths from node 0 in masks, and question 6, over links held in arrays (specs/Arrays.antt).
+#![tactic(auto)]
+
 ghost use Rattle.std.specs.Prelude.{◌≡◌, true, List, ℕ, ◌+◌, ◌<◌, ◌≤◌, length, take};
 ghost use Rattle.bits.specs.Bit.{bit};
 ghost use Rattle.graph.specs.Paths.{attach, is_tree};

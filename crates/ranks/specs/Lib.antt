@@ -1,3 +1,2 @@
 -- Ranks: the keys that edges are sorted by, and their laws.
 pub mod Keys
-pub mod KeysLaws

@@ -20,7 +20,7 @@ use Rattle.frame.specs.Meaning.{Small, Divides}
 use Rattle.frame.specs.Questions.{numbers}
 use Rattle.frame.proofs.Division.{division, division_unique}
 use Rattle.frame.proofs.Accepted.{numbers_bytes}
-use Rattle.frame.proofs.OwnAnswer.{bytes_most}
+use Rattle.frame.proofs.AnswerSize.{bytes_most}
 use Rattle.sheet.specs.Sheet.{Move, sheet_frame, MoveIn, RisingMoves, SheetOf, InRange, costs_frame, CostsOf, LeadsTo, moves_of, Translated, move_sum}
 use Rattle.sheet.specs.Reading.{is_some, costs_from, read_costs, costs_at, behind_count, apply_sheet, sheet_bytes, costs_bytes}
 use Rattle.sheet.proofs.EntryLaws.{entries_bytes, Applied, apply_sound, apply_complete}

@@ -29,7 +29,7 @@ use Rattle.codec.specs.Numbers.{numbers_at}
 use Rattle.codec.specs.Held.{answer_at}
 use Rattle.paths.specs.RootLaws.{path_below}
 use Rattle.bits.specs.Bit.{bit}
-use Rattle.ranks.specs.KeysLaws.{members_same}
+use Rattle.ranks.proofs.KeysLaws.{members_same}
 use Rattle.covering.specs.Covers.{covers, is_low, low_list, Crossed, LowRanked, ColumnsHold}
 use Rattle.covering.specs.LowLaws.{low_rank, low_column}
 use Rattle.matching.specs.Tables.{Holds}

@@ -4,7 +4,7 @@ use mathlib.Core.Bool.{false}
 use native.Mathlib.Omega.{arith}
 use lib.ListN.{length}
 use Rattle.graph.specs.Graph.{EdgeSet}
-use Rattle.ranks.specs.KeysLaws.{keys_rise, count_ranked}
+use Rattle.ranks.proofs.KeysLaws.{keys_rise, count_ranked}
 use Rattle.covering.specs.Covers.{is_low}
 use Rattle.covering.specs.LowLaws.{low_bound}
 use Rattle.covering.proofs.low_ranks.Statement.{statement}

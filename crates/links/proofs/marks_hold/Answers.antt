@@ -1,0 +1,12 @@
+use Rattle.std.proofs.Common.{refl, arith}
+use Rattle.loops.specs.Below.{all_below}
+use Rattle.loops.specs.TestLaws.{all_next}
+use Rattle.links.specs.Columns.{marked_at}
+use Rattle.links.proofs.marks_hold.Goals as goal
+
+pub loop-e-init : goal.loop-e-init
+unfolding all_below
+loop-e-init c = (omega arith, refl)
+
+pub loop-e-preserved : goal.loop-e-preserved
+loop-e-preserved c = (omega arith, all_next c.loop-e.e (marked_at c.args.mark.now) _ _ c.loop-e.invariant.1 refl)

@@ -1,0 +1,2 @@
+-- Laws of the keys.
+pub mod KeysLaws
