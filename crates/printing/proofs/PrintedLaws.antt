@@ -29,7 +29,7 @@ use Rattle.reading.specs.JobsRead.{link_of, given_of, JobGiven}
 use Rattle.reading.specs.AnswersRead.{answer_read, AnswerGiven}
 use Rattle.reading.specs.AnswerReadLaws.{pairs_most, pairs_back, read_some}
 use Rattle.text.specs.Text.{total_word, refused_word, word_line, cost_line, cost_lines, pair_line, pair_lines, answer_text}
-use Rattle.text.specs.TextLaws.{lines_same, word_line_most, cost_lines_most, pair_lines_most}
+use Rattle.text.proofs.TextLaws.{lines_same, word_line_most, cost_lines_most, pair_lines_most}
 use Rattle.printing.specs.Printed.{text_most, printed, lines_of}
 
 -- The lines of an accepted job and its answer, read into arrays.
