@@ -1,4 +1,6 @@
 // The judge of answer frames made elsewhere, over a job held in arrays.
+#![tactic(auto)]
+
 ghost use Rattle.std.specs.Prelude.{◌≡◌};
 ghost use Rattle.frame.specs.Job.{Job};
 ghost use Rattle.frame.specs.Arrays.{arrays};
