@@ -1,4 +1,6 @@
 // Judges the marked tree of a job, and answer frames made elsewhere.
+#![tactic(auto)]
+
 ghost use Rattle.std.specs.Prelude.{◌≡◌, ◌≢◌, List, ℕ};
 ghost use Rattle.frame.specs.Arrays.{arrays};
 ghost use Rattle.accept.specs.Accepting.{Asked, SomeHeld};
