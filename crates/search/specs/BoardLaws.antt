@@ -134,8 +134,7 @@ module _
         (t : ℕ) (a b : Search) → t < p.trees → b.seen t ≡ true → Same a b
         → Same (visit t a) (visit' t b) × ((x : ℕ) → b.seen x ≡ true → (visit' t b).seen x ≡ true)
 
-    enter_alike : (visit visit' : ℕ → Search → Search) → LeftAlike visit visit'
-      → LeftAlike (enter ends visit) (enter ends' visit')
+    enter_alike : (visit visit' : ℕ → Search → Search) → LeftAlike visit visit' → LeftAlike (enter ends visit) (enter ends' visit')
     enter_alike visit visit' f u a b l s h = elim (truth (ends' u)) [
       | inl e ↦ rw (stops u l, e) (halt_alike q.slots root a b h, λ x v. v)
       | inr e ↦ rw (stops u l, e) (f u a b l s h)
@@ -147,16 +146,14 @@ module _
 
     -- Tree rank t tries slot k, and then the others.
     some_alike :
-        (n : ℕ) → LeftAlike (board_tree words links ends n) (try_tree p q ends' n) → (t : ℕ) (a b : Search) → t < p.trees
-          → b.seen t ≡ true
+        (n : ℕ) → LeftAlike (board_tree words links ends n) (try_tree p q ends' n) → (t : ℕ) (a b : Search) → t < p.trees → b.seen t ≡ true
         → Same a b → (k : ℕ) → k < q.slots → next_slot p q t b ≡ k → next_slot (board_of words) (slots_of links) t a ≡ k
         → Same (board_tree words links ends (suc n) t a) (try_tree p q ends' (suc n) t b)
         × ((x : ℕ) → b.seen x ≡ true → (try_tree p q ends' (suc n) t b).seen x ≡ true)
     some_alike n more t a b l s h k m e e' =
         let u : ℕ = q.tree_of k in
         let own : first_part links k ≡ u = rw (lt-ltb k 64 (omega (arith, fits.few))) (sym (fits.own k m)) in
-        let first = enter_alike (board_tree words links ends n) (try_tree p q ends' n) more u (reach t k u a)
-          (reach t k u b) (fits.below k m)
+        let first = enter_alike (board_tree words links ends n) (try_tree p q ends' n) more u (reach t k u a) (reach t k u b) (fits.below k m)
         (put_same b.seen u true) (reach_alike q.slots root t k u a b s h) in
         let a' : Search = enter ends (board_tree words links ends n) u (reach t k u a) in
         let b' : Search = enter ends' (try_tree p q ends' n) u (reach t k u b) in
@@ -216,8 +213,7 @@ module _
             LeftAlike p q words links fits t (bit ends) ends' stops (enter (bit ends) (board_tree words links (bit ends) q.slots))
             (enter ends' (try_tree p q ends' q.slots))
         same =
-            enter_alike p q words links fits t (bit ends) ends' stops (board_tree words links (bit ends) q.slots)
-              (try_tree p q ends' q.slots)
+            enter_alike p q words links fits t (bit ends) ends' stops (board_tree words links (bit ends) q.slots) (try_tree p q ends' q.slots)
             (tree_alike p q words links fits t (bit ends) ends' stops q.slots)
 
         alike : Alike q.slots t (state_of words' links' live') (search p q ends' (bit live) t)

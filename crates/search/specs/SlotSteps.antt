@@ -19,8 +19,7 @@ part_same : (xs ys : List ℕ) → ((i : ℕ) → i < 64 → get_or ys i 0 ≡ g
 part_same xs ys h =
     fun_ext (λ i. elim (dec_lt i 64) [ yes l ↦ rw (lt-ltb i 64 l) (h i l) | no l ↦ rw (le-ltb i 64 (omega arith)) ])
 
-pub board_kept : (words links words' links' : List ℕ) → Kept words links words' links' → board_tree words' links'
-    ≡ board_tree words links
+pub board_kept : (words links words' links' : List ℕ) → Kept words links words' links' → board_tree words' links' ≡ board_tree words links
 board_kept words links words' links' h =
     ap (λ (rows : ℕ → ℕ). try_tree (board_over rows) (slots_over (first_part links'))) (part_same words words' h.rows)
     ∙ ap (λ (tree_of : ℕ → ℕ). try_tree (board_over (first_part words)) (slots_over tree_of)) (part_same links links' h.partners)
@@ -155,8 +154,7 @@ module _ (t k live : ℕ) (words links : List ℕ) (seen₁ : ℕ) (en : Entered
           kept = kept_both words links words₁ links₁ words₂ links₂ reach_kept r.kept;
           ends = r.ends ∙ reach_ends;
           falls = λ j g. taken_old (bit live) (bit live₁) k out j (r.falls j g);
-          equal = λ n m. rw (rw reach_ends at e)
-            (r.equal n (omega (arith, taken_fewer (bit live) (bit live₁) k out en.slot en.on)) ∙ on n);
+          equal = λ n m. rw (rw reach_ends at e) (r.equal n (omega (arith, taken_fewer (bit live) (bit live₁) k out en.slot en.on)) ∙ on n);
         }
       where
         on :

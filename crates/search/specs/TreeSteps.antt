@@ -89,8 +89,7 @@ module _ (t : ℕ) (words₀ links₀ : List ℕ) (ready : Ready t words₀ link
 
   some_left :
       (st : Search) (k : ℕ) → next st ≡ k → k < 64 → (m : ℕ)
-      → run (suc m) st ≡ run m (enter stop (board_tree words₀ links₀ stop m) (get_or links₀ k 0)
-        (reach t k (get_or links₀ k 0) st))
+      → run (suc m) st ≡ run m (enter stop (board_tree words₀ links₀ stop m) (get_or links₀ k 0) (reach t k (get_or links₀ k 0) st))
   some_left st k e l m = rw (lt-ltb k 64 l) at (turn_some (board_of words₀) (slots_of links₀) stop m t st k e l)
 
   -- The present state.
@@ -135,8 +134,7 @@ module _ (t : ℕ) (words₀ links₀ : List ℕ) (ready : Ready t words₀ link
       where
         found : next (state_of words links live) ≡ k
         found =
-            last_same 64 (λ j. bit (first_part words₀ t) j && bit live j) (λ j. bit (get_or words t 0) j && bit live j)
-              64 (λ j _. over_kept j)
+            last_same 64 (λ j. bit (first_part words₀ t) j && bit live j) (λ j. bit (get_or words t 0) j && bit live j) 64 (λ j _. over_kept j)
             ∙ sym pick.top
 
         pub passing_less : count 64 (bit live₂) < count 64 (bit live)
@@ -170,8 +168,7 @@ module _ (t : ℕ) (words₀ links₀ : List ℕ) (ready : Ready t words₀ link
           where
             on :
                 (n a : ℕ) → count 64 (bit live) ≤ a → run n (state_of words₀ links₀ live₀) ≡ run a (state_of words links live)
-                → (m : ℕ) × (count 64 (bit live₂) ≤ m) ×
-                  (run n (state_of words₀ links₀ live₀) ≡ run m (state_of words₂ links₂ live₂))
+                → (m : ℕ) × (count 64 (bit live₂) ≤ m) × (run n (state_of words₀ links₀ live₀) ≡ run m (state_of words₂ links₂ live₂))
             on n zero b c = absurd (omega (arith, passing_less))
             on n (suc a) b c = (
               a,

@@ -66,8 +66,7 @@ abbrev tree_callees : ℕ → try_tree_lts.Claims
 tree_callees t = (both_reads.Asked, both_reads.Learnt, highest_reads.Asked, highest_reads.Learnt, try_slot_below t, try_slot.Post)
 
 -- The slot's own tree rank.
-slot_rank : (t : ℕ) (e : try_slot_lts.Start (slot_callees t) (try_slot_at t) try_slot.Post)
-    → get_or e.args.links.now e.args.k.0 0 < 64
+slot_rank : (t : ℕ) (e : try_slot_lts.Start (slot_callees t) (try_slot_at t) try_slot.Post) → get_or e.args.links.now e.args.k.0 0 < 64
 slot_rank t e = e.requires.1.2.below e.args.k.0 e.requires.1.0
 
 -- It is marked.
@@ -92,8 +91,7 @@ try_slot_mul_links : (t : ℕ) → try_slot_lts.Need-overflow-mul-links (slot_ca
 try_slot_mul_links t c = omega (arith, c.before.before.before.requires.1.0)
 
 try_slot_add_links : (t : ℕ) → try_slot_lts.Need-overflow-add-links (slot_callees t) (try_slot_at t) try_slot.Post
-try_slot_add_links t c = omega
-    (arith, c.before.before.before.before.requires.1.0, c.before.before.before.before.requires.1.2.rank)
+try_slot_add_links t c = omega (arith, c.before.before.before.before.requires.1.0, c.before.before.before.before.requires.1.2.rank)
 
 try_slot_add_links_2 : (t : ℕ) → try_slot_lts.Need-overflow-add-links-2 (slot_callees t) (try_slot_at t) try_slot.Post
 try_slot_add_links_2 t c = omega (arith, slot_rank t c.before.before.before.before)
@@ -145,8 +143,7 @@ try_slot_mul_both : (t : ℕ) → try_slot_lts.Need-overflow-mul-both (slot_call
 try_slot_mul_both t c = omega (arith, slot_rank t c.before.before.before.before.before.before.before.before.before.before)
 
 try_slot_element_copy_out_both : (t : ℕ) → try_slot_lts.Need-element-copy-out-both (slot_callees t) (try_slot_at t) try_slot.Post
-try_slot_element_copy_out_both t c = omega
-    (arith, slot_rank t c.before.before.before.before.before.before.before.before.before.before)
+try_slot_element_copy_out_both t c = omega (arith, slot_rank t c.before.before.before.before.before.before.before.before.before.before)
 
 try_slot_both_requires : (t : ℕ) → try_slot_lts.Need-both-requires (slot_callees t) (try_slot_at t) try_slot.Post
 try_slot_both_requires t c κs = tt
@@ -164,8 +161,7 @@ try_slot_returns_2 t c =
     let r = reach_ready a.t.0 a.k.0 a.live a.words.now a.links.now f.with.result en in
     slot_leads a.t.0 a.k.0 a.live a.words.now a.links.now f.with.result en o.result o.ensures
     (sym c.before.before.before.before.before.has.ensures ∙ c.before.before.before.before.if1.false) words links o.result
-    (passing_end u words links r o.result words links o.result (passing_start u words links r o.result) m.result
-      m.ensures c.if2.true)
+    (passing_end u words links r o.result words links o.result (passing_start u words links r o.result) m.result m.ensures c.if2.true)
 
 try_slot_try_tree_requires : (t : ℕ) → try_slot_lts.Need-try-tree-requires (slot_callees t) (try_slot_at t) try_slot.Post
 try_slot_try_tree_requires t c κs =
@@ -196,29 +192,23 @@ try_tree_Inv_loop t live words₀ links₀ left₀ words links left = Passing t.
 abbrev try_tree_μ_loop : try_tree_lts.decreases-loop
 try_tree_μ_loop t live words₀ links₀ left₀ words links left = count 64 (bit left)
 
-try_tree_loop_holds : (t : ℕ) → try_tree_lts.Need-loop-init (tree_callees t) (try_tree_at t) try_tree_lem.Post
-    try_tree_Inv_loop try_tree_μ_loop
+try_tree_loop_holds : (t : ℕ) → try_tree_lts.Need-loop-init (tree_callees t) (try_tree_at t) try_tree_lem.Post try_tree_Inv_loop try_tree_μ_loop
 try_tree_loop_holds t c = let a = c.args in passing_start a.t.0 a.words.now a.links.now c.requires.1 a.live
 
-try_tree_cast_both : (t : ℕ) → try_tree_lts.Need-overflow-cast-both (tree_callees t) (try_tree_at t) try_tree_lem.Post
-    try_tree_Inv_loop try_tree_μ_loop
+try_tree_cast_both : (t : ℕ) → try_tree_lts.Need-overflow-cast-both (tree_callees t) (try_tree_at t) try_tree_lem.Post try_tree_Inv_loop try_tree_μ_loop
 try_tree_cast_both t c = omega (arith, c.before.before.requires.1.rank)
 
-try_tree_mul_both : (t : ℕ) → try_tree_lts.Need-overflow-mul-both (tree_callees t) (try_tree_at t) try_tree_lem.Post
-    try_tree_Inv_loop try_tree_μ_loop
+try_tree_mul_both : (t : ℕ) → try_tree_lts.Need-overflow-mul-both (tree_callees t) (try_tree_at t) try_tree_lem.Post try_tree_Inv_loop try_tree_μ_loop
 try_tree_mul_both t c = omega (arith, c.before.before.requires.1.rank)
 
 try_tree_element_copy_out_both :
-    (t : ℕ) → try_tree_lts.Need-element-copy-out-both (tree_callees t) (try_tree_at t) try_tree_lem.Post
-      try_tree_Inv_loop try_tree_μ_loop
+    (t : ℕ) → try_tree_lts.Need-element-copy-out-both (tree_callees t) (try_tree_at t) try_tree_lem.Post try_tree_Inv_loop try_tree_μ_loop
 try_tree_element_copy_out_both t c = omega (arith, c.before.before.requires.1.rank)
 
-try_tree_both_requires : (t : ℕ) → try_tree_lts.Need-both-requires (tree_callees t) (try_tree_at t) try_tree_lem.Post
-    try_tree_Inv_loop try_tree_μ_loop
+try_tree_both_requires : (t : ℕ) → try_tree_lts.Need-both-requires (tree_callees t) (try_tree_at t) try_tree_lem.Post try_tree_Inv_loop try_tree_μ_loop
 try_tree_both_requires t c κs = tt
 
-try_tree_returns : (t : ℕ) → try_tree_lts.Need-returns (tree_callees t) (try_tree_at t) try_tree_lem.Post
-    try_tree_Inv_loop try_tree_μ_loop
+try_tree_returns : (t : ℕ) → try_tree_lts.Need-returns (tree_callees t) (try_tree_at t) try_tree_lem.Post try_tree_Inv_loop try_tree_μ_loop
 try_tree_returns t c =
     let e = c.before.before.before.before.before in
     let a = e.args in
@@ -227,14 +217,12 @@ try_tree_returns t c =
     passing_end a.t.0 a.words.now a.links.now e.requires.1 a.live l.words l.links l.left l.invariant o.result o.ensures
     c.if1.true
 
-try_tree_highest_requires : (t : ℕ) → try_tree_lts.Need-highest-requires (tree_callees t) (try_tree_at t)
-    try_tree_lem.Post try_tree_Inv_loop try_tree_μ_loop
+try_tree_highest_requires : (t : ℕ) → try_tree_lts.Need-highest-requires (tree_callees t) (try_tree_at t) try_tree_lem.Post try_tree_Inv_loop try_tree_μ_loop
 try_tree_highest_requires t c κs = omega (arith, c.if1.false)
 
 -- The slot that is tried.
 try_tree_picked :
-    (t : ℕ) (f : try_tree_lts.After-highest (tree_callees t) (try_tree_at t) try_tree_lem.Post try_tree_Inv_loop
-      try_tree_μ_loop) →
+    (t : ℕ) (f : try_tree_lts.After-highest (tree_callees t) (try_tree_at t) try_tree_lem.Post try_tree_Inv_loop try_tree_μ_loop) →
     let l = f.before.before.before.before.before.loop in
     Picked f.before.before.before.before.before.before.args.t.0 l.words l.left f.highest.result
 try_tree_picked t f =
@@ -243,8 +231,7 @@ try_tree_picked t f =
     picked f.before.before.before.before.before.before.args.t.0 l.words l.left o.result o.ensures f.before.if1.false o.type-inv
     f.highest.result f.highest.ensures
 
-try_tree_try_slot_requires : (t : ℕ) → try_tree_lts.Need-try-slot-requires (tree_callees t) (try_tree_at t)
-    try_tree_lem.Post try_tree_Inv_loop try_tree_μ_loop
+try_tree_try_slot_requires : (t : ℕ) → try_tree_lts.Need-try-slot-requires (tree_callees t) (try_tree_at t) try_tree_lem.Post try_tree_Inv_loop try_tree_μ_loop
 try_tree_try_slot_requires t c κs =
     let e = c.before.before.before.before.before.before.before.before in
     let a = e.args in
@@ -258,8 +245,7 @@ try_tree_try_slot_requires t c κs =
       ),
     )
 
-try_tree_loop_less : (t : ℕ) → try_tree_lts.Need-loop-smaller (tree_callees t) (try_tree_at t) try_tree_lem.Post
-    try_tree_Inv_loop try_tree_μ_loop
+try_tree_loop_less : (t : ℕ) → try_tree_lts.Need-loop-smaller (tree_callees t) (try_tree_at t) try_tree_lem.Post try_tree_Inv_loop try_tree_μ_loop
 try_tree_loop_less t c =
     let e = c.before.before.before.before.before.before.before.before.before in
     let a = e.args in
@@ -269,8 +255,7 @@ try_tree_loop_less t c =
     passing_less a.t.0 a.words.now a.links.now e.requires.1 a.live l.words l.links l.left l.invariant f.highest.result
     (try_tree_picked t f) r.new.1.1.1.0 r.new.1.1.1.1.0 r.result r.ensures
 
-try_tree_loop_again : (t : ℕ) → try_tree_lts.Need-loop-preserved (tree_callees t) (try_tree_at t) try_tree_lem.Post
-    try_tree_Inv_loop try_tree_μ_loop
+try_tree_loop_again : (t : ℕ) → try_tree_lts.Need-loop-preserved (tree_callees t) (try_tree_at t) try_tree_lem.Post try_tree_Inv_loop try_tree_μ_loop
 try_tree_loop_again t c =
     let e = c.before.before.before.before.before.before.before.before.before in
     let a = e.args in
