@@ -1,7 +1,7 @@
 """Runs the program `settle` on random jobs and frames and holds what it prints to document 01.
 
 Run: python3 tests/settle.py [COUNT] [SEED]    COUNT frames (default 3000) besides the document's own, from SEED (default 1).
-The program is target/bin/settle, or the one that the environment variable SETTLE names.
+The program is crates/settle/out/settle, or the one that the environment variable SETTLE names.
 
 Refusals and the answers to small jobs are held to the brute-force reference. For larger jobs the pairing is the proof: the
 steps are both the sum of the changes and the pairing's weight, and the marked tree is cheapest with the new costs.
@@ -21,7 +21,7 @@ sys.dont_write_bytecode = True
 import brute_force as reference
 from brute_force import NUMBER_MOST, UNPLUGGED, Answer, Job, Link
 
-PROGRAM = os.environ.get("SETTLE") or str(Path(__file__).resolve().parent.parent / "target/bin/settle")
+PROGRAM = os.environ.get("SETTLE") or str(Path(__file__).resolve().parent.parent / "crates/settle/out/settle")
 LONGEST_INPUT = 65536
 # Ranges of costs: one byte, two, three. Each leaves room above the least costs of reference.random_job.
 COST_TOPS = [1, 3, 60, 16257, NUMBER_MOST - 16382]
@@ -343,7 +343,7 @@ def runs(rng, wanted):
 
 def main():
     if not os.path.exists(PROGRAM):
-        sys.exit("tests/settle.py needs target/bin/settle: rt check settle builds it")
+        sys.exit("tests/settle.py needs crates/settle/out/settle: rt check settle builds it")
     wanted = int(sys.argv[1]) if len(sys.argv) > 1 else 3000
     rng = random.Random(int(sys.argv[2]) if len(sys.argv) > 2 else 1)
     kinds, numbers, kept, most, unplugged = Counter(), Counter(), 0, 0, 0

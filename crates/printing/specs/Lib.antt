@@ -1,3 +1,2 @@
--- What is printed for a job frame, and the laws that tie it to what the services give.
+-- What is printed for a job frame.
 pub mod Printed
-pub mod PrintedLaws

@@ -1,5 +1,5 @@
 -- What is printed for a job frame. Definitions only. Assumes nothing.
-use Rattle.std.specs.Prelude.{ℕ, ◌+◌, ◌*◌, List, ◌++◌, eqb, get_or}
+use Rattle.std.specs.Prelude.{ℕ, ◌+◌, ◌*◌, ◌≤◌, ◌≡◌, List, ◌++◌, eqb, length, get_or, take}
 use Rattle.loops.specs.Below.{choose}
 use Rattle.frame.specs.Questions.{job_of, refusal}
 use Rattle.frame.specs.Answers.{answer_of}
@@ -11,6 +11,10 @@ use Rattle.text.specs.Text.{total_word, refused_word, word_line, cost_lines, pai
 -- The room for a text, in bytes: enough for every one (`lines_fit`).
 abbrev pub text_most : ℕ
 text_most = 20480
+
+-- A buffer has so many bytes, and they are as many at its start.
+abbrev pub IsPrefixLen : ℕ → List ℕ → Type 0
+IsPrefixLen n xs = (n ≤ length xs) × (n ≡ length (take n xs))
 
 -- The text of the answer to an accepted job; else one line, with the number of the first question whose answer is "no".
 abbrev pub printed : List ℕ → List ℕ

@@ -1,8 +1,9 @@
 // What the program prints for a job frame, put into a buffer: the answer, or why the frame is refused.
+#![tactic(auto)]
+
 ghost use Rattle.std.specs.Prelude.{◌≤◌, ◌≡◌, length, take};
-ghost use Rattle.io.specs.Counts.{IsPrefixLen};
 ghost use Rattle.codec.specs.Numbers.{Put};
-ghost use Rattle.printing.specs.Printed.{text_most, printed, lines_of};
+ghost use Rattle.printing.specs.Printed.{text_most, IsPrefixLen, printed, lines_of};
 
 use limits::ANSWER_MOST;
 use reading::{AnswerRead, JobRead};

@@ -1,3 +1,2 @@
--- The text of an answer, and its laws.
+-- The text of an answer.
 pub mod Text
-pub mod TextLaws

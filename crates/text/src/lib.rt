@@ -1,4 +1,6 @@
 // The lines of an answer as ASCII text, put one behind the other into a buffer.
+#![tactic(auto)]
+
 ghost use Rattle.std.specs.Prelude.{◌+◌, ◌*◌, ◌≤◌, ◌++◌, length, get_or};
 ghost use Rattle.codec.specs.Numbers.{Put};
 ghost use Rattle.records.specs.Records.{zero_link};
@@ -11,8 +13,9 @@ fn put(out: &mut [u8], at: usize, part: &[u8]) -> usize
     requires { at + length part.now ≤ length out.old }
     ensures { Put out.old at part.now result out.new }
 {
-    let rest = &mut out[at..];
-    at + bytes::copy(part, rest)
+    let end = at + part.len();
+    out[at..end].copy_from_slice(part);
+    end
 }
 
 // Puts a number, and what stands behind it.
@@ -20,9 +23,8 @@ fn put_number(out: &mut [u8], at: usize, n: u32, behind: &[u8]) -> usize
     requires { at + (20 + length behind.now) ≤ length out.old }
     ensures { Put out.old at (decimal n ++ behind.now) result out.new }
 {
-    let mut digits = [0u8; 20];
-    let k = io::decimal(n as u64, &mut digits);
-    let next = put(out, at, &digits[..k]);
+    let mut digits = itoa::Buffer::new();
+    let next = put(out, at, digits.format(n).as_bytes());
     put(out, next, behind)
 }
 

@@ -1,0 +1,2 @@
+-- Laws of the text of an answer.
+pub mod TextLaws
