@@ -4,7 +4,7 @@ Run: python3 tests/model.py [COUNT]    COUNT random jobs (default 80), 3 refused
 of document 01. Some 100 seconds. `rt` must be on the PATH. Nothing in this repository is changed.
 
 It copies crates/ and crates.txt into a temporary directory and adds a crate `probe`. Its specs state, a fact a result and
-each by `refl`, that the model computes what the reference found; `rt dev probe` checks them. Then two facts are stated
+each by `refl`, that the model computes what the reference found; `rt check probe` checks them. Then two facts are stated
 wrongly, and rt must refuse both. It prints figures and OK, or every fact that failed with its job's bytes.
 """
 import random
@@ -35,33 +35,28 @@ MODEL = {
     "sheet": ["Sheet", "Reading"],
     "replay": ["Log", "LogReading"],
 }
-LIBRARY = ["mathlib.Core.List.flatMap", "mathlib.Core.Bool.xor"]
+LIBRARY = ["mathlib.Core.List.flat_map", "mathlib.Core.Bool.xor"]
 
 HEADER = """-- What the model computes. Assumes nothing.
-use Prim.Native.Nat.{ℕ, suc}
-use mathlib.Core.Path.{_≡_, refl}
-use mathlib.Core.Bool.{Bool, true, false, cond, _&&_, _||_}
-use mathlib.Core.List.{List, [], _∷_}
-use mathlib.Core.Option.{Option, Option·getD}
-use lib.Dec.{eqb}
-use lib.ListN.{length, take}
-use Rattle·loops.specs.Loop.{tabulate}
-use Rattle·graph.specs.Rank.{treeRanks}
-use Rattle·graph.specs.Paths.{judge}
-use Rattle·optimum.specs.Optimum.{Answer}
-use Rattle·optimum.specs.Search.{Problem, built}
-use Rattle·optimum.specs.Solve.{problem}
-use Rattle·optimum.specs.Solution.{pairsOf}
-use Rattle·frame.specs.Job.{JobLink, Job, jobFrame, graphOf, treeOf, costOf}
-use Rattle·frame.specs.Questions.{refusal, jobOf, listRefusal, later}
-use Rattle·frame.specs.AnswerMeaning.{answerFrame}
-use Rattle·frame.specs.Answers.{answerOf, judgeTree, judgeAnswer, readAnswer, pairsWeight}
-use Rattle·frame.specs.Services.{Outcome, written}
-use Rattle·frame.specs.Replies.{answered, linkPart, costPart, noAnswer}
-use Rattle·sheet.specs.Sheet.{movesOf, moveSum, costsFrame}
-use Rattle·sheet.specs.Reading.{isSome, costsAt, sheetBytes, costsBytes}
-use Rattle·replay.specs.Log.{Packet, logFrame, replayed}
-use Rattle·replay.specs.LogReading.{readLog}
+use Rattle.std.specs.Prelude.{ℕ, suc, ◌≡◌, refl, Bool, true, false, cond, ◌&&◌, ◌||◌, List, [], ◌∷◌, eqb, length, take}
+use Rattle.std.proofs.Math.Option.{Option, get_or as option_or}
+use Rattle.loops.specs.Loop.{tabulate}
+use Rattle.graph.specs.Rank.{tree_ranks}
+use Rattle.graph.specs.Paths.{judge}
+use Rattle.optimum.specs.Optimum.{Answer}
+use Rattle.optimum.specs.Search.{Problem, built}
+use Rattle.optimum.specs.Solve.{problem}
+use Rattle.optimum.proofs.Solution.{pairs_of}
+use Rattle.frame.specs.Job.{JobLink, Job, job_frame, graph_of, tree_of, cost_of}
+use Rattle.frame.specs.Questions.{refusal, job_of, list_refusal, later}
+use Rattle.frame.specs.AnswerMeaning.{answer_frame}
+use Rattle.frame.specs.Answers.{answer_of, judge_tree, judge_answer, read_answer, pairs_weight}
+use Rattle.frame.specs.Services.{Outcome, written}
+use Rattle.frame.specs.Replies.{answered, link_part, cost_part, no_answer}
+use Rattle.sheet.specs.Sheet.{moves_of, move_sum, costs_frame}
+use Rattle.sheet.specs.Reading.{is_some, costs_at, sheet_bytes, costs_bytes}
+use Rattle.replay.specs.Log.{Packet, log_frame, replayed}
+use Rattle.replay.specs.LogReading.{read_log}
 
 abbrev same : List ℕ → List ℕ → Bool
 same [] [] = true
@@ -76,45 +71,45 @@ among (ys ∷ yss) xs = same ys xs || among yss xs
 -- What a service on step sheets leaves in an area, as crate `stepping` states it: questions 1 to 6, then 8, then 7.
 abbrev stepped : (ℕ → (ℕ → ℕ) → List ℕ → Option (List ℕ)) → List ℕ → List ℕ → List ℕ → Outcome
 stepped make s f area =
-    let made : Option (List ℕ) = make (length (jobOf s .links)) (costOf (jobOf s)) f in
-    written (later (refusal s) (isSome made) 8) (Option·getD made []) 0 area
+    let made : Option (List ℕ) = make (length (job_of s).links) (cost_of (job_of s)) f in
+    written (later (refusal s) (is_some made) 8) (option_or made []) 0 area
 
 -- The absolute changes of the sheet of the own answer, added up.
-abbrev ownChanges : Job → ℕ
-ownChanges j = moveSum (movesOf (length (j .links)) (costOf j) (costsAt (answerOf j .costs)))
+abbrev own_changes : Job → ℕ
+own_changes j = move_sum (moves_of (length j.links) (cost_of j) (costs_at (answer_of j).costs))
 
 -- The packets of a log to a job frame; none of one that is not in form.
-abbrev packetsOf : List ℕ → List ℕ → List Packet
-packetsOf s f = Option·getD (readLog (length (jobOf s .links)) f) []
+abbrev packets_of : List ℕ → List ℕ → List Packet
+packets_of s f = option_or (read_log (length (job_of s).links) f) []
 
-abbrev logRefusal : List ℕ → List ℕ → ℕ
-logRefusal s f = later (refusal s) (isSome (readLog (length (jobOf s .links)) f)) 9
+abbrev log_refusal : List ℕ → List ℕ → ℕ
+log_refusal s f = later (refusal s) (is_some (read_log (length (job_of s).links) f)) 9
 
 -- What the replay leaves in an area: questions 1 to 6, then 9, then 7.
-abbrev replayedInto : List ℕ → List ℕ → List ℕ → Outcome
-replayedInto s f area =
-    let made : List ℕ = costsFrame (length (jobOf s .links)) (replayed (packetsOf s f) (costOf (jobOf s))) in
-    written (logRefusal s f) made 0 area
+abbrev replayed_into : List ℕ → List ℕ → List ℕ → Outcome
+replayed_into s f area =
+    let made : List ℕ = costs_frame (length (job_of s).links) (replayed (packets_of s f) (cost_of (job_of s))) in
+    written (log_refusal s f) made 0 area
 
 -- For 0, 1, .. all packets of a log: 1 if the tree is judged cheapest after so many, else 0.
-abbrev cheapestAfter : List ℕ → List ℕ → List ℕ
-cheapestAfter s f =
-    let j : Job = jobOf s in
-    let qs : List Packet = packetsOf s f in
-    let ranks : List ℕ = treeRanks (graphOf j) (treeOf j) (costOf j) in
-    tabulate (suc (length qs)) λ k. cond (judge (graphOf j) (treeOf j) (replayed (take k qs) (costOf j)) ranks) 1 0
+abbrev cheapest_after : List ℕ → List ℕ → List ℕ
+cheapest_after s f =
+    let j : Job = job_of s in
+    let qs : List Packet = packets_of s f in
+    let ranks : List ℕ = tree_ranks (graph_of j) (tree_of j) (cost_of j) in
+    tabulate (suc (length qs)) λ k. cond (judge (graph_of j) (tree_of j) (replayed (take k qs) (cost_of j)) ranks) 1 0
 
-abbrev problemOf : Job → Problem
-problemOf j = problem (graphOf j) (treeOf j) (costOf j)
+abbrev problem_of : Job → Problem
+problem_of j = problem (graph_of j) (tree_of j) (cost_of j)
 
 -- The running weight at the start and after each tree rank; and the pairs' weight there, added up.
-abbrev runningWeights : Job → List ℕ
-runningWeights j = tabulate (suc (problemOf j .trees)) (λ t. built (problemOf j) t .weight)
+abbrev running_weights : Job → List ℕ
+running_weights j = tabulate (suc (problem_of j).trees) (λ t. (built (problem_of j) t).weight)
 
-abbrev addedWeights : Job → List ℕ
-addedWeights j =
-    tabulate (suc (problemOf j .trees)) λ t.
-    pairsWeight (costOf j) (pairsOf (graphOf j) (treeOf j) (costOf j) (built (problemOf j) t .pairs))
+abbrev added_weights : Job → List ℕ
+added_weights j =
+    tabulate (suc (problem_of j).trees) λ t.
+    pairs_weight (cost_of j) (pairs_of (graph_of j) (tree_of j) (cost_of j) (built (problem_of j) t).pairs)
 """
 
 # The rows T1 to T9, those that document 01 wants run, and some at the edge of a question: a job, and its answers or its
@@ -204,7 +199,7 @@ LENT = [
 TINY = [Job(1, []), Job(2, [Link(0, 1, 0, 1)]), Job(2, [Link(0, 1, 0, 1), Link(0, 1, NUMBER_MOST, 0)])]
 
 # The services on step sheets: what makes the sheet or the costs in the reference, and in the model.
-STEPPED = {reference.sheet_of: "sheetBytes", reference.costs_of: "costsBytes"}
+STEPPED = {reference.sheet_of: "sheet_bytes", reference.costs_of: "costs_bytes"}
 
 # A fact: its name, its job's bytes, what it is about, the model's term and the reference's value.
 Fact = namedtuple("Fact", "name frame about term value")
@@ -247,7 +242,7 @@ def unfolded():
     for crate, modules in MODEL.items():
         for module in modules:
             text = (ROOT / "crates" / crate / "specs" / f"{module}.antt").read_text(encoding="utf-8")
-            names += [f"Rattle·{crate}.specs.{module}.{name}" for name in re.findall(r"^unfoldable pub (\S+) :", text, re.M)]
+            names += [f"Rattle.{crate}.specs.{module}.{name}" for name in re.findall(r"^unfoldable pub (\S+) :", text, re.M)]
     return " ".join(names)
 
 
@@ -285,7 +280,7 @@ class Probe:
         self.unplugged += number == 0 and bool(reference.unplugged_links(reference.job_of(frame)))
         self.state(frame, "refusal", f"refusal {s}", number)
         if number not in (1, 2, 3):
-            self.state(frame, "refusal of the list", f"listRefusal (jobOf {s})", number)
+            self.state(frame, "refusal of the list", f"list_refusal (job_of {s})", number)
         return number
 
     def refused(self, frame, number):
@@ -294,8 +289,8 @@ class Probe:
         area = [9, 8, 7]
         answer = T1_ANSWER if number < 4 else reference.unchanged(reference.job_of(frame))
         self.state(frame, "outcome", f"answered {s} {bytes_text(area)}", outcome_text(number, 0, area))
-        self.state(frame, "part of link 0", f"linkPart (refusal {s}) {s} 0", "[]")
-        self.state(frame, f"part of cost 0 in {answer.hex(' ')}", f"costPart {s} {bytes_text(answer)} 0", "[]")
+        self.state(frame, "part of link 0", f"link_part (refusal {s}) {s} 0", "[]")
+        self.state(frame, f"part of cost 0 in {answer.hex(' ')}", f"cost_part {s} {bytes_text(answer)} 0", "[]")
         costs = b"" if number < 4 else reference.write_numbers(reference.old_costs(reference.job_of(frame)))
         for make, given in ((reference.sheet_of, costs), (reference.costs_of, b"\0")):
             self.stepped(frame, make, given, "in form")
@@ -307,8 +302,8 @@ class Probe:
         s = bytes_text(frame)
         job = reference.job_of(frame)
         solution = reference.solve(job)
-        self.state(frame, "judge of the tree", f"judgeTree (jobOf {s})", word(reference.judge_tree(job)))
-        self.state(frame, "read and written", f"jobFrame (jobOf {s})", list_text(frame))
+        self.state(frame, "judge of the tree", f"judge_tree (job_of {s})", word(reference.judge_tree(job)))
+        self.state(frame, "read and written", f"job_frame (job_of {s})", list_text(frame))
         self.link_parts(frame, job)
         self.own_answer(frame, solution)
         self.weights(frame, job)
@@ -319,23 +314,23 @@ class Probe:
     def link_parts(self, frame, job):
         s = bytes_text(frame)
         for e in range(len(job.links) + 1):
-            self.state(frame, f"part of link {e}", f"linkPart (refusal {s}) {s} {e}", list_text(reference.link_part(frame, e)))
+            self.state(frame, f"part of link {e}", f"link_part (refusal {s}) {s} {e}", list_text(reference.link_part(frame, e)))
 
     def own_frame(self, frame, solution):
         """The model's answer frame is one of those that may be written."""
         right = list_text(bytes_text(answer) for answer in reference.right_answers(solution))
         self.steps[solution.steps] += 1
-        self.state(frame, "answer frame", f"among ({right}) (answerFrame (answerOf (jobOf {bytes_text(frame)})))", "true")
+        self.state(frame, "answer frame", f"among ({right}) (answer_frame (answer_of (job_of {bytes_text(frame)})))", "true")
 
     def own_answer(self, frame, solution):
         """The same, its steps, costs, changes and the judge's word about it; if no other may be written, the outcomes too."""
         s = bytes_text(frame)
         right = reference.right_answers(solution)
         self.own_frame(frame, solution)
-        self.state(frame, "steps", f"answerOf (jobOf {s}) .steps", solution.steps)
-        self.state(frame, "costs", f"answerOf (jobOf {s}) .costs", list_text(solution.lowest))
-        self.state(frame, "changes of the own sheet", f"ownChanges (jobOf {s})", solution.steps)
-        self.state(frame, "judge of the own answer", f"judgeAnswer (jobOf {s}) (answerFrame (answerOf (jobOf {s})))", "true")
+        self.state(frame, "steps", f"(answer_of (job_of {s})).steps", solution.steps)
+        self.state(frame, "costs", f"(answer_of (job_of {s})).costs", list_text(solution.lowest))
+        self.state(frame, "changes of the own sheet", f"own_changes (job_of {s})", solution.steps)
+        self.state(frame, "judge of the own answer", f"judge_answer (job_of {s}) (answer_frame (answer_of (job_of {s})))", "true")
         if len(right) == 1:
             for length in (len(right[0]) - 1, len(right[0]), len(right[0]) + 2):
                 self.outcome(frame, right[0], [self.rng.randrange(256) for _ in range(length)])
@@ -343,8 +338,8 @@ class Probe:
     def weights(self, frame, job):
         """The running weight, and what the pairs add up to: the greatest weight of a pairing of the tree links so far."""
         weights = list_text(reference.running_weights(job))
-        self.state(frame, "running weights", f"runningWeights (jobOf {bytes_text(frame)})", weights)
-        self.state(frame, "weights added up", f"addedWeights (jobOf {bytes_text(frame)})", weights)
+        self.state(frame, "running weights", f"running_weights (job_of {bytes_text(frame)})", weights)
+        self.state(frame, "weights added up", f"added_weights (job_of {bytes_text(frame)})", weights)
 
     def outcome(self, frame, answer, area):
         """What the answer service leaves in an area."""
@@ -362,15 +357,15 @@ class Probe:
         s, f = bytes_text(frame), bytes_text(answer)
         judged = reference.judge_answer(job, answer)
         self.judged[judged] += 1
-        self.state(frame, f"judge of {answer.hex(' ')} ({about})", f"judgeAnswer (jobOf {s}) {f}", word(judged))
+        self.state(frame, f"judge of {answer.hex(' ')} ({about})", f"judge_answer (job_of {s}) {f}", word(judged))
         if judged:
-            read = f"Option·getD (readAnswer {len(job.links)} {f}) noAnswer"
-            self.state(frame, f"{answer.hex(' ')} read and written", f"answerFrame ({read})", list_text(answer))
+            read = f"option_or (read_answer {len(job.links)} {f}) no_answer"
+            self.state(frame, f"{answer.hex(' ')} read and written", f"answer_frame ({read})", list_text(answer))
 
     def cost_parts(self, frame, job, answer):
         for e in range(len(job.links) + 1):
             part = reference.cost_part(frame, answer, e)
-            term = f"costPart {bytes_text(frame)} {bytes_text(answer)} {e}"
+            term = f"cost_part {bytes_text(frame)} {bytes_text(answer)} {e}"
             self.state(frame, f"part of cost {e} in {answer.hex(' ')}", term, list_text(part))
 
     def sheets(self, frame, job, solution):
@@ -404,23 +399,23 @@ class Probe:
         number = reference.log_refusal(frame, log)
         told = f"log {log.hex(' ')} ({about})"
         self.replayed[number] += 1
-        self.state(frame, f"refusal with the {told}", f"logRefusal {s} {f}", number)
+        self.state(frame, f"refusal with the {told}", f"log_refusal {s} {f}", number)
         result = None if number else reference.replay(reference.job_of(frame), log)
         made = result.costs if result else b""
         area = [self.log_rng.randrange(256) for _ in range(max(0, len(made) + self.log_rng.randint(-1, 2)))]
-        self.state(frame, f"outcome of the {told}", f"replayedInto {s} {f} {bytes_text(area)}", served_text(number, made, area))
+        self.state(frame, f"outcome of the {told}", f"replayed_into {s} {f} {bytes_text(area)}", served_text(number, made, area))
         if result:
             self.packets(frame, log, result, told)
 
     def packets(self, frame, log, result, told):
         s, f = bytes_text(frame), bytes_text(log)
         self.first["never" if result.first is None else "later" if result.first else "at the start"] += 1
-        self.state(frame, f"read and written: {told}", f"logFrame (packetsOf {s} {f})", list_text(log))
-        self.state(frame, f"cheapest after: {told}", f"cheapestAfter {s} {f}", list_text(map(int, result.cheapest)))
+        self.state(frame, f"read and written: {told}", f"log_frame (packets_of {s} {f})", list_text(log))
+        self.state(frame, f"cheapest after: {told}", f"cheapest_after {s} {f}", list_text(map(int, result.cheapest)))
 
     def lent(self, job):
         number = reference.list_refusal(job)
-        self.state(reference.job_frame(job), "refusal of a lent list", f"listRefusal ({job_text(job)})", number)
+        self.state(reference.job_frame(job), "refusal of a lent list", f"list_refusal ({job_text(job)})", number)
 
 
 # What is run: the rows of the document, with which the reference must agree too, and then jobs at the limits.
@@ -534,7 +529,7 @@ def chosen_frames(probe, wanted):
 # The scratch repository.
 
 def write_repository(repo):
-    shutil.copytree(ROOT / "crates", repo / "crates")
+    shutil.copytree(ROOT / "crates", repo / "crates", ignore=shutil.ignore_patterns("out"))
     listed = (ROOT / "crates.txt").read_text(encoding="utf-8").rstrip("\n")
     (repo / "crates.txt").write_text(f"{listed}\nprobe: {STANDS_ON}\n", encoding="utf-8")
 
@@ -561,9 +556,9 @@ def write_probe(repo, facts):
 def check(repo, facts):
     """Lets rt check the facts: whether all hold, and what it printed."""
     write_probe(repo, facts)
-    run = subprocess.run(["rt", "dev", "probe"], cwd=repo, text=True, stdout=subprocess.PIPE, stderr=subprocess.STDOUT)
-    lines = run.stdout.splitlines() or [""]
-    return run.returncode == 0 and lines[-1].startswith("logic=proved"), run.stdout
+    run = subprocess.run(["rt", "check", "probe"], cwd=repo, text=True, stdout=subprocess.PIPE, stderr=subprocess.STDOUT)
+    proved = any(line.startswith("logic=proved") for line in run.stdout.splitlines())
+    return run.returncode == 0 and proved, run.stdout
 
 
 def failures(output, facts):

@@ -1,5 +1,7 @@
 // Questions 1 to 6, put to a job frame; an accepted job is then held in arrays, with its tree ranks and paths where they are asked
 // for.
+#![tactic(auto)]
+
 ghost use Rattle.std.specs.Prelude.{◌≡◌, length};
 ghost use Rattle.frame.specs.Job.{Job};
 ghost use Rattle.frame.specs.Questions.{job_of, job_refusal};

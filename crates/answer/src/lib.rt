@@ -1,4 +1,6 @@
 // Answer frames: the writer of an answer held in arrays, costs in link order, tree link and spare link of the pairs by turns.
+#![tactic(auto)]
+
 ghost use Rattle.std.specs.Prelude.{◌≡◌, ◌+◌, ◌*◌, ◌<◌, ◌≤◌, leb, length, set};
 ghost use Rattle.frame.specs.AnswerMeaning.{answer_frame};
 ghost use Rattle.frame.specs.Services.{written};

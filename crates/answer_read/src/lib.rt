@@ -1,4 +1,6 @@
 // Reads an answer frame made elsewhere into arrays: new costs for 256 links; tree link and spare link of 64 pairs by turns.
+#![tactic(auto)]
+
 ghost use Rattle.std.specs.Prelude.{◌≡◌, true, ◌+◌, ◌≤◌, length};
 ghost use Rattle.frame.specs.Answers.{read_answer};
 ghost use Rattle.answer_read.specs.Reading.{no_contents, contents, few, AnswerPlaces, Behind};
@@ -10,7 +12,7 @@ use division::{Numbers, count_numbers};
 use leb128::Number;
 
 // The steps and the number of pairs, if the frame can be read.
-#[derive(Drop)]
+#[derive(Clone, Copy)]
 pub struct Contents {
     pub ok: bool,
     pub steps: u32,

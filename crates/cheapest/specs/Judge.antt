@@ -35,7 +35,8 @@ pub record Priced (count : ℕ) (ranks : List ℕ) : Type 0 where
 
 -- Of the first `count` ranks those in `falling` cost no more than any lower one.
 abbrev pub FallAlong : ℕ → ℕ → List ℕ → List ℕ → Type 0
-FallAlong count falling ranks as₃ = (j k : ℕ) → j < k → k < count → bit falling k ≡ true → cost_at as₃ ranks k ≤ cost_at as₃ ranks j
+FallAlong count falling ranks as₃ = (j k : ℕ) → j < k → k < count → bit falling k ≡ true → cost_at as₃ ranks k
+    ≤ cost_at as₃ ranks j
 
 -- A link of the arrays between two nodes, whose covered ranks name edges, and covered ranks that cost no more than any lower one.
 pub record Spare (s falling : ℕ) (ranks as₁ as₂ as₃ mask : List ℕ) : Type 0 where

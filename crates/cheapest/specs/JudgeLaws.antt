@@ -99,7 +99,8 @@ pub judge_at :
 unfolding judge
 judge_at nodes edges count ranks as₁ as₂ as₄ mask c h same =
     all_same edges _ _ (λ s l. ap (λ b. not (array_spare as₄ s) || b)
-    (sym (all_longer count 64 _ (omega (arith, h.few)) (λ k b. rw (across_past edges count ranks as₁ as₂ mask h (get_or as₁ s 0) (get_or as₂ s 0) k b)))
+    (sym (all_longer count 64 _ (omega (arith, h.few))
+      (λ k b. rw (across_past edges count ranks as₁ as₂ mask h (get_or as₁ s 0) (get_or as₂ s 0) k b)))
     ∙ rw (length-take-le count ranks h.within) (all_same count _ _ (λ k b.
     rw (across_covers nodes edges as₁ as₂ as₄ mask (take count ranks) same s k, get_or-take count ranks k 0 b)))))
 
@@ -108,4 +109,5 @@ pub judge_links :
     → paths mask ≡ (rooted (array_graph nodes edges as₁ as₂ as₄) (take count ranks)).path
     → all_below edges (link_holds ranks as₁ as₂ as₃ as₄ mask)
     ≡ judge (array_graph nodes edges as₁ as₂ as₄) (array_tree as₄) (array_cost as₃) (take count ranks)
-judge_links nodes edges count ranks as₁ as₂ as₃ as₄ mask h same = judge_at nodes edges count ranks as₁ as₂ as₄ mask (array_cost as₃) h same
+judge_links nodes edges count ranks as₁ as₂ as₃ as₄ mask h same = judge_at nodes edges count ranks as₁ as₂ as₄ mask
+    (array_cost as₃) h same

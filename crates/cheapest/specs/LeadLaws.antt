@@ -51,7 +51,8 @@ module _ (ranks as₃ : List ℕ) where
       }
 
   -- One more rank, whose cost is `price`.
-  module _ (k falling least price : ℕ) (h : Passed k ranks as₃ falling least) (is : price ≡ cost_at as₃ ranks k) (fits : price < 2 ^ 32) where
+  module _ (k falling least price : ℕ) (h : Passed k ranks as₃ falling least) (is : price ≡ cost_at as₃ ranks k)
+    (fits : price < 2 ^ 32) where
     -- It costs no more than any lower one if it costs at most the least so far.
     told : (j : ℕ) → j ≡ k → leb price least ≡ not_dearer (k + 1) ranks as₃ j
     told j e =
@@ -71,7 +72,8 @@ module _ (ranks as₃ : List ℕ) where
         e ∙ rw (h.lowest x l, is) refl ∙ sym (all_next k (λ i. leb x (cost_at as₃ ranks i)))
 
     pub passed_lower :
-        (falling' : ℕ) → ((j : ℕ) → bit falling' j ≡ (bit falling j || eqb k j)) → price ≤ least → Passed (k + 1) ranks as₃ falling' price
+        (falling' : ℕ) → ((j : ℕ) → bit falling' j ≡ (bit falling j || eqb k j)) → price ≤ least
+          → Passed (k + 1) ranks as₃ falling' price
     passed_lower falling' with l =
         record {
           own = λ j. with j ∙ elim (ℕ_discrete j k) [
@@ -93,7 +95,8 @@ module _ (ranks as₃ : List ℕ) where
       (count falling : ℕ) → ((k : ℕ) → bit falling k ≡ not_dearer count ranks as₃ k)
       → FallAlong count falling ranks as₃
   falls_word count falling h j k l m b =
-      leb-true _ _ (all_at k (λ i. leb (cost_at as₃ ranks k) (cost_at as₃ ranks i)) (and_second (ltb k count) _ (sym (h k) ∙ b)) j l)
+      leb-true _ _ (all_at k (λ i. leb (cost_at as₃ ranks k) (cost_at as₃ ranks i))
+        (and_second (ltb k count) _ (sym (h k) ∙ b)) j l)
 
 -- ---- the ranks of a word that may be its dearest
 
@@ -123,7 +126,8 @@ module _ (ranks as₃ : List ℕ) (word falling left limit : ℕ)
         | yes c ↦
             elim (truth (bit falling k)) [
               | inl t ↦
-                  let most : cost_at as₃ ranks low ≤ limit = leb-true _ limit (first_passes low (omega arith) refl (lowest_is.hit (omega arith))) in
+                  let most : cost_at as₃ ranks low ≤ limit = leb-true _ limit
+                    (first_passes low (omega arith) refl (lowest_is.hit (omega arith))) in
                   le-leb _ limit (omega (arith, falls low k c b t, most))
               | inr n ↦ passes k l (rw (b, n) refl)
             ]
@@ -144,11 +148,13 @@ module _ (ranks as₃ : List ℕ) (word falling left limit : ℕ)
       passes j m q = (or_means (bit left j) _).0 (all_at 64 _ h j m) (part j ∙ q)
 
       first_passes : (j : ℕ) → j < 64 → first 64 (bit word) ≡ j → bit word j ≡ true → leb (cost_at as₃ ranks j) limit ≡ true
-      first_passes j m e q = passes j m (and_both _ _ q (or_test (not (bit falling j)) _ ∙ rw (eq-eqb (first 64 (bit word)) j e) refl))
+      first_passes j m e q = passes j m
+        (and_both _ _ q (or_test (not (bit falling j)) _ ∙ rw (eq-eqb (first 64 (bit word)) j e) refl))
 
   pub lead_tells :
       (p : ℕ → Bool) → ((k : ℕ) → bit word k ≡ p k)
-      → all_below 64 (λ k. not (bit left k) || leb (cost_at as₃ ranks k) limit) ≡ all_below 64 (λ k. not (p k) || leb (cost_at as₃ ranks k) limit)
+      → all_below 64 (λ k. not (bit left k) || leb (cost_at as₃ ranks k) limit)
+        ≡ all_below 64 (λ k. not (p k) || leb (cost_at as₃ ranks k) limit)
   unfolding ok
   lead_tells p same =
       same_test _ _

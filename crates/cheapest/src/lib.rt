@@ -1,4 +1,6 @@
 // The judge of trees, over links held in arrays (specs/Judge.antt).
+#![tactic(auto)]
+
 ghost use Rattle.std.specs.Prelude.{◌≡◌, ℕ, ◌<◌, get_or, take};
 ghost use Rattle.bits.specs.Bit.{bit};
 ghost use Rattle.graph.specs.Rank.{cost_at};

@@ -19,13 +19,15 @@ limit_is limit x p cost ts more less t l = elim (dec_lt t p) [
 
 -- The limit found for spare rank i among the tree ranks below the last limit: it is that of all of them, and no tree rank
 -- from it on costs more than a later spare rank.
-module _ (cost ts ss : List ℕ) (trees q limit limit' i : ℕ) (within : i < q) (fewer : limit' ≤ limit) (rises : RanksRise q cost ss)
+module _ (cost ts ss : List ℕ) (trees q limit limit' i : ℕ) (within : i < q) (fewer : limit' ≤ limit)
+    (rises : RanksRise q cost ss)
     (cut : (t s : ℕ) → limit ≤ t → t < trees → i ≤ s → s < q → cost_at cost ts t ≤ cost_at cost ss s)
     (found : (t : ℕ) → t < limit → ltb (cost_at cost ss i) (cost_at cost ts t) ≡ ltb t limit') where
   pub limit_all : (t : ℕ) → t < trees → ltb (cost_at cost ss i) (cost_at cost ts t) ≡ ltb t limit'
   limit_all t l = elim (dec_lt t limit) [
     | yes h ↦ found t h
-    | no h ↦ le-ltb (cost_at cost ss i) (cost_at cost ts t) (cut t i (omega arith) l (omega arith) within) ∙ sym (le-ltb t limit' (omega arith))
+    | no h ↦ le-ltb (cost_at cost ss i) (cost_at cost ts t) (cut t i (omega arith) l (omega arith) within)
+      ∙ sym (le-ltb t limit' (omega arith))
   ]
 
   pub limit_cuts : (t s : ℕ) → limit' ≤ t → t < trees → i ≤ s → s < q → cost_at cost ts t ≤ cost_at cost ss s
@@ -54,5 +56,6 @@ module _ (trees : ℕ) (cost ts ss end₁ end₂ mask : List ℕ) (cols : List �
           ≡ (ltb t trees && (covers end₁ end₂ mask (get_or ss i 0) t && ltb (cost_at cost ss i) (cost_at cost ts t)))
       new t = elim (dec_lt t trees) [
         | yes h ↦ rw (lt-ltb t trees h, dearer t h) refl
-        | no h ↦ rw (le-ltb t trees (omega arith), le-ltb t limit (omega arith)) (and-false (covers end₁ end₂ mask (get_or ss i 0) t))
+        | no h ↦ rw (le-ltb t trees (omega arith), le-ltb t limit (omega arith))
+          (and-false (covers end₁ end₂ mask (get_or ss i 0) t))
       ]

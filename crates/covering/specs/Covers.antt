@@ -15,7 +15,8 @@ covers end₁ end₂ mask e t = across mask (get_or end₁ e 0) (get_or end₂ e
 
 -- Spare rank s covers tree rank t and costs less.
 abbrev pub undercuts_at : List ℕ → List ℕ → List ℕ → List ℕ → List ℕ → List ℕ → ℕ → ℕ → Bool
-undercuts_at cost ts ss end₁ end₂ mask t s = covers end₁ end₂ mask (get_or ss s 0) t && ltb (cost_at cost ss s) (cost_at cost ts t)
+undercuts_at cost ts ss end₁ end₂ mask t s = covers end₁ end₂ mask (get_or ss s 0) t && ltb (cost_at cost ss s)
+    (cost_at cost ts t)
 
 -- The columns say which of the tree ranks each of the first `spares` spare ranks undercuts.
 abbrev pub ColumnsHold : ℕ → ℕ → List ℕ → List ℕ → List ℕ → List ℕ → List ℕ → List ℕ → List ℕ → Type 0

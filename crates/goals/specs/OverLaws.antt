@@ -22,7 +22,8 @@ pub record NextOver (from spares trees : ℕ) (cols : List ℕ) (r : ℕ) : Type
 module _ (from spares trees : ℕ) (cols : List ℕ) (l : from ≤ spares) where
   pub over_is : NextOver from spares trees cols (next_over from spares trees cols)
   over_is =
-      let f : First (spares - from) (λ i. meets trees cols (from + i)) (first (spares - from) (λ i. meets trees cols (from + i))) =
+      let f : First (spares - from) (λ i. meets trees cols (from + i))
+        (first (spares - from) (λ i. meets trees cols (from + i))) =
       first_is (spares - from) (λ i. meets trees cols (from + i)) in
       record {
         start = omega arith;
@@ -45,7 +46,8 @@ module _ (from spares trees : ℕ) (cols : List ℕ) (l : from ≤ spares) where
       ap (λ x. from + x) is ∙ e
 
   -- If none before has one, it is the first of all.
-  pub over_first : ((s : ℕ) → s < from → meets trees cols s ≡ false) → next_over from spares trees cols ≡ first spares (meets trees cols)
+  pub over_first : ((s : ℕ) → s < from → meets trees cols s ≡ false) → next_over from spares trees cols
+    ≡ first spares (meets trees cols)
   over_first none = sym (first_found (record {
     within = over_is.within;
     before = λ s b. elim (dec_lt s from) [ yes c ↦ none s c | no c ↦ over_is.before s (omega arith) b ];
@@ -77,7 +79,8 @@ word_some r p fits is some =
     let l : first 64 (bit r) < 64 = first_below 64 r some fits in
     some_of 64 p (first 64 (bit r)) l (sym (is (first 64 (bit r))) ∙ (first_is 64 (bit r)).hit l)
 
-module _ (from spares trees : ℕ) (cols : List ℕ) (s : ℕ) (l : from ≤ s) (m : s ≤ spares) (passed : PassedOver from s trees cols) where
+module _ (from spares trees : ℕ) (cols : List ℕ) (s : ℕ) (l : from ≤ s) (m : s ≤ spares)
+    (passed : PassedOver from s trees cols) where
   -- The rest of the way is as long from s as from `from`.
   pub over_later : next_over s spares trees cols ≡ next_over from spares trees cols
   over_later =
@@ -90,7 +93,8 @@ module _ (from spares trees : ℕ) (cols : List ℕ) (s : ℕ) (l : from ≤ s) 
       }))
 
   pub over_end : spares ≤ s → s ≡ next_over from spares trees cols
-  over_end e = sym (over_found from spares trees cols (omega arith) (record { start = l; within = m; before = passed; hit = λ b. absurd (omega arith) }))
+  over_end e = sym (over_found from spares trees cols (omega arith)
+    (record { start = l; within = m; before = passed; hit = λ b. absurd (omega arith) }))
 
   -- The members of column s in the set, as a word.
   module _ (r : ℕ) (both : (j : ℕ) → bit r j ≡ (bit (get_or cols s 0) j && bit trees j)) where

@@ -1,4 +1,6 @@
 // Reads a job frame into arrays for 256 links, or refuses it by questions 1 to 3; finds one link's four numbers in it.
+#![tactic(auto)]
+
 ghost use Rattle.std.specs.Prelude.{◌≡◌, ◌+◌, ◌*◌, ◌≤◌, ◌<◌, length};
 ghost use Rattle.frame.specs.Questions.{numbers, job_of};
 ghost use Rattle.codec.specs.Numbers.{Divided, place_of};

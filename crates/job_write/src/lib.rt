@@ -1,4 +1,6 @@
 // Writes the job frame of links held in arrays, group by group, so that its numbers need not be listed first.
+#![tactic(auto)]
+
 ghost use Rattle.std.specs.Prelude.{◌≡◌, ◌+◌, ◌<◌, ◌≤◌, length};
 ghost use Rattle.std.proofs.lemmas.List.Edits.{sets};
 ghost use Rattle.frame.specs.Job.{fields, job_frame};

@@ -9,7 +9,7 @@ use accept::accept;
 use job::Header;
 
 // What a judge says: yes, no, or the first refusal of questions 1 to 6.
-#[derive(Drop)]
+#[derive(Clone, Copy)]
 pub enum Verdict {
     Yes,
     No,

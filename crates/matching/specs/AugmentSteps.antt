@@ -39,10 +39,12 @@ module _ (p : Problem) (t : ℕ) (pr : Progress) where
   augment_tried c e h = rw (e, h)
 
   tried_on :
-      (st : Search) (g : ℕ) → goal_of p (mates_in pr.pairs) st.seen ≡ g → worth p t g ≡ true → augment_by p t pr st ≡ turned p t pr g st
+      (st : Search) (g : ℕ) → goal_of p (mates_in pr.pairs) st.seen ≡ g → worth p t g ≡ true → augment_by p t pr st
+        ≡ turned p t pr g st
   tried_on st g e h = rw (e, h)
 
-  tried_off : (st : Search) (g : ℕ) → goal_of p (mates_in pr.pairs) st.seen ≡ g → worth p t g ≡ false → augment_by p t pr st ≡ given_up pr st
+  tried_off : (st : Search) (g : ℕ) → goal_of p (mates_in pr.pairs) st.seen ≡ g → worth p t g ≡ false
+    → augment_by p t pr st ≡ given_up pr st
   tried_off st g e h = rw (e, h)
 
 built_next : (p : Problem) (t : ℕ) → built p (suc t) ≡ augment p t (built p t)
@@ -60,7 +62,8 @@ abbrev exploration : Problem → ℕ → ℕ → ℕ → Search
 exploration p t c live = search p (built p t).pairs (λ x. p.covers x c) (bit live) t
 
 -- What is known before the exploration: the cheapest spare rank in no pair, and what it and tree rank t cost.
-pub record Compared (t slots low live weight trees spares : ℕ) (cost ts ss : List ℕ) (b : Tables) (all low' high least : ℕ) : Type 0 where
+pub record Compared (t slots low live weight trees spares : ℕ) (cost ts ss : List ℕ) (b : Tables)
+    (all low' high least : ℕ) : Type 0 where
   pub able : Augmentable t slots low weight trees spares ts ss b
   pub whole : (j : ℕ) → bit all j ≡ ltb j trees
   pub low_is : low' ≡ next_over low spares all b.cols
@@ -98,10 +101,12 @@ module _
         cheapest : low' ≡ cheapest_of p (mates_at p t)
         cheapest =
             known.low_is
-            ∙ cheapest_is h (mates_at p t) b.cols hp.pairs.columns known.able.few_trees all known.whole low safe.within hp.low_paired
+            ∙ cheapest_is h (mates_at p t) b.cols hp.pairs.columns known.able.few_trees all known.whole low safe.within
+              hp.low_paired
 
         low_paired : (s : ℕ) → s < low' → s < p.spares → mates_at p t s ≢ 0
-        low_paired s a _ e = clash (eq-eqb (mates_at p t s) 0 e) ((first_is p.spares (λ s. eqb (mates_at p t s) 0)).before s (omega (arith, cheapest)))
+        low_paired s a _ e = clash (eq-eqb (mates_at p t s) 0 e)
+          ((first_is p.spares (λ s. eqb (mates_at p t s) 0)).before s (omega (arith, cheapest)))
 
         none_holds : high ≤ least → HoldsProgress p (built p (suc t)) cols₀ slots low' live weight b
         none_holds off =
@@ -184,7 +189,8 @@ module _
               low_free : mates_at p t low' ≡ 0
               low_free =
                   rw (cheapest p cols₀ r h hp)
-                  (eqb-true _ 0 ((first_is p.spares (λ s. eqb (mates_at p t s) 0)).hit (rw (← cheapest p cols₀ r h hp) low_spare)))
+                  (eqb-true _ 0 ((first_is p.spares (λ s. eqb (mates_at p t s) 0)).hit
+                    (rw (← cheapest p cols₀ r h hp) low_spare)))
 
               fits : Fits p (pairs_at p t) b.words b.links
               fits =
@@ -199,7 +205,8 @@ module _
               found : FoundSearch t words₁ links₁ live₁ (exploration p t low' live)
               found =
                   explored_found p (pairs_at p t) b.words b.links fits t live (rank p cols₀ r h hp)
-                  (λ k v. omega (arith, hp.slots_are, hp.live_below k v)) words₁ links₁ live₁ (get_or b.cols low' 0) (λ x. p.covers x low')
+                  (λ k v. omega (arith, hp.slots_are, hp.live_below k v)) words₁ links₁ live₁ (get_or b.cols low' 0)
+                    (λ x. p.covers x low')
                   (λ x a. column_covers h (mates_at p t) b.cols hp.pairs.columns x low' a low_spare low_free)
                   explored
 
@@ -219,7 +226,8 @@ module _
               goal_model : goal_of p (mates_at p t) (exploration p t low' live).seen ≡ goal
               goal_model =
                   sym (found-goal
-                  ∙ goal_is h (mates_at p t) b.cols hp.pairs.columns known.able.few_trees (get_or words₁ 64 0) (exploration p t low' live).seen
+                  ∙ goal_is h (mates_at p t) b.cols hp.pairs.columns known.able.few_trees (get_or words₁ 64 0)
+                    (exploration p t low' live).seen
                   found.seen low' low_within (low_paired p cols₀ r h hp))
 
               tried : built p (suc t) ≡ augment_by p t (built p t) (exploration p t low' live)
@@ -227,7 +235,8 @@ module _
                   built_next p t
                   ∙ augment_tried p t (built p t) low' (sym (cheapest p cols₀ r h hp))
                   (worth_on h known.able.rank known.high_is known.high_small low' known.least_is on)
-                  ∙ ap (λ (f : ℕ → Bool). augment_by p t (built p t) (search p (pairs_at p t) (λ x. p.covers x low') f t)) (sym hp.live_are)
+                  ∙ ap (λ (f : ℕ → Bool). augment_by p t (built p t)
+                    (search p (pairs_at p t) (λ x. p.covers x low') f t)) (sym hp.live_are)
 
               off_holds : high ≤ least₁ → HoldsProgress p (built p (suc t)) cols₀ slots low' live₁ weight b₁
               off_holds off =
@@ -237,7 +246,8 @@ module _
                   record {
                     slots_are = hp.slots_are;
                     live_are = found.live;
-                    live_below = λ k v. hp.live_below k ((search_closed p (pairs_at p t) (λ x. p.covers x low') (bit live) t).falls k (rw found.live at v));
+                    live_below = λ k v. hp.live_below k
+                      ((search_closed p (pairs_at p t) (λ x. p.covers x low') (bit live) t).falls k (rw found.live at v));
                     weighs = hp.weighs;
                     low_paired = low_paired p cols₀ r h hp;
                     pairs = pairs₁;
@@ -283,7 +293,8 @@ module _
 
             module _
                 {cols' words' links' spare' slot' : List ℕ}
-                (put_in : PairPut t goal slots (get_or words₁ 64 0) b.cols words₁ links₁ b.spare b.slot cols' words' links' spare' slot')
+                (put_in : PairPut t goal slots (get_or words₁ 64 0) b.cols words₁ links₁ b.spare b.slot cols' words'
+                  links' spare' slot')
                 (live' : ℕ)
                 (more : (j : ℕ) → bit live' j ≡ (bit live j || eqb slots j))
               where
@@ -306,15 +317,19 @@ module _
                       within = low_within;
                       room = omega (arith, safe.room, known.high_small);
                       clean =
-                          λ x k a l. put_in.words_are.rows x k a ∙ rw (clean₁ x k a (omega arith), ne_eqb slots k (λ e. omega arith));
+                          λ x k a l. put_in.words_are.rows x k a
+                            ∙ rw (clean₁ x k a (omega arith), ne_eqb slots k (λ e. omega arith));
                       placed = λ s l e. elim (ℕ_discrete s goal) [
                         | yes d ↦
                             let at : get_or slot' s 0 ≡ slots =
-                            rw (put_in.slot_is, d) (get_or-set_same b.slot goal slots 0 (omega (arith, pair_able.goal_below, sized₁.slot_length))) in
+                            rw (put_in.slot_is, d) (get_or-set_same b.slot goal slots 0
+                              (omega (arith, pair_able.goal_below, sized₁.slot_length))) in
                             omega arith
                         | no d ↦
-                            let at : get_or slot' s 0 ≡ get_or b.slot s 0 = rw put_in.slot_is (get_or-set_other b.slot goal s slots 0 d) in
-                            let column : get_or b.cols s 0 ≡ 0 = sym (get_or-set_other b.cols goal s 0 0 d) ∙ rw put_in.cols_are at e in
+                            let at : get_or slot' s 0 ≡ get_or b.slot s 0 = rw put_in.slot_is
+                              (get_or-set_other b.slot goal s slots 0 d) in
+                            let column : get_or b.cols s 0 ≡ 0 = sym (get_or-set_other b.cols goal s 0 0 d)
+                              ∙ rw put_in.cols_are at e in
                             omega (arith, safe.placed s l column)
                       ];
                     }
@@ -336,7 +351,8 @@ module _
                     both =
                         let is = goal_model p cols₀ r h hp in
                         rw is at
-                        ((first_is p.spares (λ s. ltb (hit_of p (exploration p t low' live).seen s) p.trees && eqb (mates_at p t s) 0)).hit
+                        ((first_is p.spares (λ s. ltb (hit_of p (exploration p t low' live).seen s) p.trees && eqb
+                          (mates_at p t s) 0)).hit
                         (rw is goal_spare))
 
                     goal_free : mates_at p t goal ≡ 0
@@ -355,7 +371,8 @@ module _
 
                     hit_same : hit_in (get_or b.cols goal 0) (get_or words₁ 64 0) ≡ hit
                     hit_same =
-                        goal_hit_is h (mates_at p t) b.cols hp.pairs.columns known.able.few_trees (get_or words₁ 64 0) (exploration p t low' live).seen
+                        goal_hit_is h (mates_at p t) b.cols hp.pairs.columns known.able.few_trees (get_or words₁ 64 0)
+                          (exploration p t low' live).seen
                         (found p cols₀ r h hp).seen goal goal_spare goal_free hit_below
 
                     abbrev tree_of' : ℕ → ℕ
@@ -367,7 +384,8 @@ module _
                         put_in.links_are.own k (omega (arith, (fits p cols₀ r h hp).few))
                         ∙ rw (hit_same, ← hp.slots_are)
                         (ap (λ (f : ℕ → ℕ). f k)
-                        (turn_same (ways links₁) (state_of words₁ links₁ live₁) (λ _. refl) (λ _. refl) t n hit n (λ j. get_or links₁ j 0)
+                        (turn_same (ways links₁) (state_of words₁ links₁ live₁) (λ _. refl) (λ _. refl) t n hit n
+                          (λ j. get_or links₁ j 0)
                         ∙ (found p cols₀ r h hp).turns n hit n (λ j. get_or links₁ j 0) hit_seen))
                         ∙ turn_near (exploration p t low' live) t n hit n (λ j. get_or links₁ j 0) (pairs_at p t).tree_of k near
                       where
@@ -393,11 +411,13 @@ module _
                     below' =
                         slot_below p q'
                         (subst (λ (pr : Progress). HeldSlots p pr.pairs) turned_on (built_held p r (suc t) (rank p cols₀ r h hp)))
-                        (subst (λ (pr : Progress). Valid p (mates_in pr.pairs)) turned_on (built_valid p r (suc t) (rank p cols₀ r h hp)))
+                        (subst (λ (pr : Progress). Valid p (mates_in pr.pairs)) turned_on
+                          (built_valid p r (suc t) (rank p cols₀ r h hp)))
 
                     on_holds : HoldsProgress p (built p (suc t)) cols₀ (slots + 1) low' live' (weight + (high - least₁)) b'
                     on_holds =
-                        subst (λ (pr : Progress). HoldsProgress p pr cols₀ (slots + 1) low' live' (weight + (high - least₁)) b') (sym turned_on)
+                        subst (λ (pr : Progress). HoldsProgress p pr cols₀ (slots + 1) low' live'
+                          (weight + (high - least₁)) b') (sym turned_on)
                         record {
                           slots_are = omega (arith, hp.slots_are);
                           live_are = added (bit live) (bit live') slots more ∙ rw (hp.live_are, hp.slots_are);
@@ -425,11 +445,13 @@ module _
 
                         mates_more : (s : ℕ) → mates_at p t s ≢ 0 → mates_in q' s ≢ 0
                         mates_more =
-                            mates_kept sized₁ (pairs₁ p cols₀ r h hp) held clean₂ (fits p cols₀ r h hp).ranks few_spares room goal goal_spare goal_free tree_of'
+                            mates_kept sized₁ (pairs₁ p cols₀ r h hp) held clean₂ (fits p cols₀ r h hp).ranks few_spares
+                              room goal goal_spare goal_free tree_of'
 
                         one_more : HoldsPairs p q' cols₀ b'
                         one_more =
-                            pairs_put sized₁ (pairs₁ p cols₀ r h hp) held clean₂ (fits p cols₀ r h hp).ranks few_spares room goal goal_spare goal_free tree_of'
+                            pairs_put sized₁ (pairs₁ p cols₀ r h hp) held clean₂ (fits p cols₀ r h hp).ranks few_spares
+                              room goal goal_spare goal_free tree_of'
                             (rw (← hp.slots_are) at put_in)
                             (λ x a. column_covers h (mates_at p t) b.cols hp.pairs.columns x goal a goal_spare goal_free)
                             own' below'

@@ -38,10 +38,12 @@ pub record Augmentable (t slots low weight trees spares : ℕ) (ts ss : List ℕ
   pub safe : Safe t spares slots low weight b
 
 -- What it leaves: the model's progress one tree rank further.
-pub record Augmented (t slots low live weight trees spares : ℕ) (cost ts ss : List ℕ) (b : Tables) (slots' low' live' weight' : ℕ) (b' : Tables) : Type 0 where
+pub record Augmented (t slots low live weight trees spares : ℕ) (cost ts ss : List ℕ) (b : Tables)
+    (slots' low' live' weight' : ℕ) (b' : Tables) : Type 0 where
   pub safe : Safe (suc t) spares slots' low' weight' b'
   pub holds :
-      (p : Problem) (cols₀ : List ℕ) → Ranked p → Holds p trees spares cost ts ss cols₀ → HoldsProgress p (built p t) cols₀ slots low live weight b
+      (p : Problem) (cols₀ : List ℕ) → Ranked p → Holds p trees spares cost ts ss cols₀
+        → HoldsProgress p (built p t) cols₀ slots low live weight b
       → HoldsProgress p (built p (suc t)) cols₀ slots' low' live' weight' b'
 
 -- What building the matching needs: the columns, none of them 0, and nothing in the other tables.
@@ -69,5 +71,6 @@ pub record Built (trees spares : ℕ) (cost ts ss cols₀ : List ℕ) (slots low
   pub few : slots ≤ trees
   pub placed : SlotPlaced spares slots b.cols b.slot
   pub holds :
-      (p : Problem) → Ranked p → Holds p trees spares cost ts ss cols₀ → HoldsProgress p (built p p.trees) cols₀ slots low live weight b
+      (p : Problem) → Ranked p → Holds p trees spares cost ts ss cols₀
+        → HoldsProgress p (built p p.trees) cols₀ slots low live weight b
   pub weighs : Weighs trees trees spares cost ts ss cols₀ weight

@@ -16,7 +16,8 @@ use Rattle.matching.specs.Build.{Safe, Weighs, Augmentable, Augmented, Buildable
 pub record Building (t trees spares : ℕ) (cost ts ss cols₀ : List ℕ) (slots low live weight : ℕ) (b : Tables) : Type 0 where
   pub within : t ≤ trees
   pub safe : Safe t spares slots low weight b
-  pub holds : (p : Problem) → Ranked p → Holds p trees spares cost ts ss cols₀ → HoldsProgress p (built p t) cols₀ slots low live weight b
+  pub holds : (p : Problem) → Ranked p → Holds p trees spares cost ts ss cols₀
+    → HoldsProgress p (built p t) cols₀ slots low live weight b
   pub weighs : Weighs t trees spares cost ts ss cols₀ weight
 
 -- What is kept is the model's running weight, and so the pairs' own.
@@ -88,7 +89,8 @@ module _
     {b : Tables}
     (h : Building t trees spares cost ts ss cols₀ slots low live weight b)
   where
-    pub building_ready : {b₀ : Tables} → Buildable trees spares ts ss b₀ → t < trees → Augmentable t slots low weight trees spares ts ss b
+    pub building_ready : {b₀ : Tables} → Buildable trees spares ts ss b₀ → t < trees
+      → Augmentable t slots low weight trees spares ts ss b
     building_ready s l =
         record {
           rank = l;

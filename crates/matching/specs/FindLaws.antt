@@ -116,13 +116,15 @@ module _
           (low : ℕ) → low ≤ spares → ((s : ℕ) → s < low → s < p.spares → mates s ≢ 0)
           → next_over low spares all cols ≡ cheapest_of p mates
       cheapest_is low l paired =
-          over_first low spares all cols l (λ s b. meets_taken all s (rw h.spares_are (omega arith)) (paired s b (rw h.spares_are (omega arith))))
+          over_first low spares all cols l
+            (λ s b. meets_taken all s (rw h.spares_are (omega arith)) (paired s b (rw h.spares_are (omega arith))))
           ∙ ap (λ (n : ℕ). first n (meets all cols)) (sym h.spares_are)
           ∙ first_same p.spares (meets all cols) (λ s. eqb (mates s) 0) meets_all
 
     -- The goal of an exploration that has seen these tree ranks.
     module _ (few : trees < 64) (set : ℕ) (seen : ℕ → Bool) (same : bit set ≡ seen) where
-      inside : (s : ℕ) → s < p.spares → mates s ≡ 0 → (t : ℕ) → t < p.trees → (bit (get_or cols s 0) t && bit set t) ≡ (seen t && p.covers t s)
+      inside : (s : ℕ) → s < p.spares → mates s ≡ 0 → (t : ℕ) → t < p.trees → (bit (get_or cols s 0) t && bit set t)
+        ≡ (seen t && p.covers t s)
       inside s l e t a = rw (column_covers t s a l e, same) (and_swap (p.covers t s) (seen t))
 
       outside : (s : ℕ) → s < p.spares → mates s ≡ 0 → (t : ℕ) → p.trees ≤ t → (bit (get_or cols s 0) t && bit set t) ≡ false
@@ -136,7 +138,8 @@ module _
         | no d ↦ rw (ne_eqb (mates s) 0 d) (meets_taken set s l d ∙ sym (and-false (ltb (hit_of p seen s) p.trees)))
         | yes e ↦
             rw (eq-eqb (mates s) 0 e)
-            (wider_test p.trees 64 trees_few (λ t. bit (get_or cols s 0) t && bit set t) (λ t. seen t && p.covers t s) (inside s l e) (outside s l e)
+            (wider_test p.trees 64 trees_few (λ t. bit (get_or cols s 0) t && bit set t) (λ t. seen t && p.covers t s)
+              (inside s l e) (outside s l e)
             ∙ sym (and-true (ltb (hit_of p seen s) p.trees)))
       ]
 
@@ -144,15 +147,18 @@ module _
           (low : ℕ) → low ≤ spares → ((s : ℕ) → s < low → s < p.spares → mates s ≢ 0)
           → next_over low spares set cols ≡ goal_of p mates seen
       goal_is low l paired =
-          over_first low spares set cols l (λ s b. meets_taken set s (rw h.spares_are (omega arith)) (paired s b (rw h.spares_are (omega arith))))
+          over_first low spares set cols l
+            (λ s b. meets_taken set s (rw h.spares_are (omega arith)) (paired s b (rw h.spares_are (omega arith))))
           ∙ ap (λ (n : ℕ). first n (meets set cols)) (sym h.spares_are)
           ∙ first_same p.spares (meets set cols) (λ s. ltb (hit_of p seen s) p.trees && eqb (mates s) 0) meets_seen
 
       -- The tree rank under it.
       pub goal_hit_is :
-          (s : ℕ) → s < p.spares → mates s ≡ 0 → hit_of p seen s < p.trees → first 64 (λ t. bit (get_or cols s 0) t && bit set t) ≡ hit_of p seen s
+          (s : ℕ) → s < p.spares → mates s ≡ 0 → hit_of p seen s < p.trees
+            → first 64 (λ t. bit (get_or cols s 0) t && bit set t) ≡ hit_of p seen s
       goal_hit_is s l e b =
-          wider_hit p.trees 64 trees_few (λ t. bit (get_or cols s 0) t && bit set t) (λ t. seen t && p.covers t s) (inside s l e) (outside s l e) b
+          wider_hit p.trees 64 trees_few (λ t. bit (get_or cols s 0) t && bit set t) (λ t. seen t && p.covers t s)
+            (inside s l e) (outside s l e) b
 
 -- A goal that costs less than a number of 32 bits is a spare rank.
 within_test : (b : Bool) (x y : ℕ) → y < 4294967296 → cond b x 4294967295 < y → b ≡ true
@@ -160,7 +166,8 @@ within_test true x y k h = refl
 within_test false x y k h = absurd (omega arith)
 
 pub goal_within :
-    (spares : ℕ) (cost ss : List ℕ) (goal high least : ℕ) → high < 4294967296 → least ≡ goal_cost spares cost ss goal → least < high → goal < spares
+    (spares : ℕ) (cost ss : List ℕ) (goal high least : ℕ) → high < 4294967296 → least ≡ goal_cost spares cost ss goal
+      → least < high → goal < spares
 goal_within spares cost ss goal high least k e h =
     ltb-true goal spares (within_test (ltb goal spares) (cost_at cost ss goal) high k (omega arith))
 

@@ -14,7 +14,8 @@ use Rattle.matching.specs.Build.{Clean}
 
 -- What the turned way gives a slot depends on what that slot had, unless it is written first.
 pub turn_near :
-    (st : Search) (root turns v k : ℕ) (f g : ℕ → ℕ) (j : ℕ) → put f k v j ≡ put g k v j → turn st root turns v k f j ≡ turn st root turns v k g j
+    (st : Search) (root turns v k : ℕ) (f g : ℕ → ℕ) (j : ℕ) → put f k v j ≡ put g k v j → turn st root turns v k f j
+      ≡ turn st root turns v k g j
 unfolding turn
 turn_near st root zero v k f g j h = h
 turn_near st root (suc turns) v k f g j h = elim (ℕ_discrete v root) [
@@ -104,7 +105,8 @@ module _
         rows_put x k a l = rw (put_in.words_are.rows x k (omega arith)) (elim (ℕ_discrete k n) [
           | yes e ↦ rw (e, new, clean x n (omega arith) (omega arith), eq-eqb n n refl) (sym (covers x a))
           | no d ↦
-              rw (old k d, ne_eqb n k (λ e. d (sym e))) (pairs.rows x k a (omega arith) ∙ sym (or-false (bit (get_or b.words x 0) k)))
+              rw (old k d, ne_eqb n k (λ e. d (sym e)))
+                (pairs.rows x k a (omega arith) ∙ sym (or-false (bit (get_or b.words x 0) k)))
         ])
 
         columns_put : (s : ℕ) → s < p.spares → get_or cols' s 0 ≡ cond (eqb (mates_in q' s) 0) (get_or cols₀ s 0) 0

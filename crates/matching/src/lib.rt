@@ -1,5 +1,7 @@
 // The matching, built one tree rank at a time, and its running weight (specs/Tables.antt; the model is in optimum's
 // specs/Search.antt).
+#![tactic(auto)]
+
 ghost use Rattle.std.specs.Prelude.{◌≡◌, ◌<◌, ◌≤◌, get_or};
 ghost use Rattle.graph.specs.Rank.{cost_at};
 ghost use Rattle.matching.specs.Tables.{Edges, tables};
@@ -72,7 +74,7 @@ fn augment(
             weight: at.weight,
         };
     }
-    let live = search::explore(t, at.live, cols[low as usize], words, links);
+    let live = search::explore(TreeRank(t.0), at.live, cols[low as usize], words, links);
     let seen = words[64];
     let goal = goals::goal_over(low, spares, seen, cols);
     let least = goal_cost(SpareRank(goal), spares, cost, ss);

@@ -1,4 +1,6 @@
 // The test of the pairs that an answer lists, each by itself, over a job held in arrays (specs/Pairs.antt).
+#![tactic(auto)]
+
 ghost use Rattle.std.specs.Prelude.{◌≡◌, ◌≤◌, length, take};
 ghost use Rattle.cheapest.specs.Judge.{Judged};
 ghost use Rattle.frame.specs.Arrays.{arrays};

@@ -12,7 +12,7 @@ use judging::{Verdict, judge_answer_held};
 use records::Link;
 
 // A job read from its frame: the refusal; or 0, the station count, the link count and the links, zeros behind the last.
-#[derive(Drop)]
+#[derive(Clone, Copy)]
 pub struct JobRead {
     pub refusal: u32,
     pub nodes: u32,
@@ -87,7 +87,7 @@ pub fn read_job(frame: &[u8]) -> JobRead
 
 // An answer read from a frame: the verdict on it; if that is yes, the steps, the new cost of each link, and so many pairs, tree
 // link and spare link by turns; zeros behind the last.
-#[derive(Drop)]
+#[derive(Clone, Copy)]
 pub struct AnswerRead {
     pub verdict: Verdict,
     pub steps: u32,

@@ -13,7 +13,7 @@ use job::Header;
 const OWN_QUESTION: u32 = 9;
 
 // After how many packets the marked tree was first cheapest.
-#[derive(Drop)]
+#[derive(Clone, Copy)]
 pub enum When {
     // 0: from the start.
     After(usize),
@@ -21,7 +21,7 @@ pub enum When {
 }
 
 // A refusal, 0 and never; or 0, the length written and the first number of packets.
-#[derive(Drop)]
+#[derive(Clone, Copy)]
 pub struct Replayed {
     pub refusal: u32,
     pub length: usize,

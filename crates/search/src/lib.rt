@@ -2,6 +2,8 @@
 // `words` holds at 0..63 for each tree rank the slots over it, at 64 the tree ranks seen, at 65 those at which an
 // exploration ends. `links` holds at 0..63 the tree rank of each slot, at 64 + u the way back of tree rank u: 64 times the
 // slot, and the tree rank before. The live slots go by value: those that are left are handed back.
+#![tactic(auto)]
+
 ghost use Rattle.std.specs.Prelude.{◌≡◌, true, ◌<◌};
 ghost use Rattle.bits.specs.Bit.{bit};
 ghost use Rattle.search.specs.Board.{Ready, TreeTried, SlotTried, Explored};
@@ -20,7 +22,7 @@ fn try_tree(t: TreeRank, live: u64, words: &mut [u64; 66], links: &mut [u32; 128
         if over == 0 {
             return left;
         }
-        left = try_slot(t, Slot(bits::highest(over)), left, words, links);
+        left = try_slot(TreeRank(t.0), Slot(bits::highest(over)), left, words, links);
     }
 }
 

@@ -1,4 +1,6 @@
 // Writes the step sheet of new costs.
+#![tactic(auto)]
+
 ghost use Rattle.std.specs.Prelude.{◌≡◌, ◌+◌, ◌≤◌, pos, ◌-ℤ◌, length};
 ghost use Rattle.limits.specs.Limits.{max_number};
 ghost use Rattle.frame.specs.Services.{written};

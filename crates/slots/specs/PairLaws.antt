@@ -50,7 +50,8 @@ module _ (k trees : ℕ) (words₀ : List ℕ) where
     member = rw lowest ((first_is 64 (bit w)).hit (first_below 64 w some word))
 
     row_turn :
-        (u k' : ℕ) → (bit (get_or (set words t x) u 0) k' || (eqb k k' && bit left u)) ≡ (bit (get_or words u 0) k' || (eqb k k' && bit w u))
+        (u k' : ℕ) → (bit (get_or (set words t x) u 0) k' || (eqb k k' && bit left u))
+          ≡ (bit (get_or words u 0) k' || (eqb k k' && bit w u))
     row_turn u k' = rw (less u, ← lowest) (elim (ℕ_discrete u t) [
       | yes e ↦ rw (e, member, eq-eqb t t refl, get_or-set_same words t x 0 (omega (arith, below, h.size)), more k')
           (put_now (bit (get_or words t 0) k') (eqb k k'))
@@ -115,7 +116,8 @@ pub record Turning (root hit slot : ℕ) (links₀ links : List ℕ) (v k left :
   pub slot_below : k < 64
   pub partners : Partners links
   pub rest : (i : ℕ) → 64 ≤ i → get_or links i 0 ≡ get_or links₀ i 0
-  pub whole : turn (ways links₀) root left v k (λ j. get_or links j 0) ≡ turn (ways links₀) root slot hit slot (λ j. get_or links₀ j 0)
+  pub whole : turn (ways links₀) root left v k (λ j. get_or links j 0)
+    ≡ turn (ways links₀) root slot hit slot (λ j. get_or links₀ j 0)
 
 module _ (root hit slot : ℕ) (links₀ : List ℕ) where
   pub turn_start :

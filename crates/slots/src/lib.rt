@@ -1,6 +1,8 @@
 // A pair gets its slot, and the way back from its spare rank is turned (specs/Paired.antt; the model is in optimum's
 // specs/Search.antt). The arrays are those of an exploration: `words` holds at 0..63 for each tree rank the slots over it; `links`
 // at 0..63 the tree rank of each slot, and at 64 + u the way back of tree rank u, 64 times the slot, and the tree rank before.
+#![tactic(auto)]
+
 ghost use Rattle.std.specs.Prelude.{◌≡◌, ◌<◌, length};
 ghost use Rattle.search.specs.Board.{Partners};
 ghost use Rattle.slots.specs.Paired.{Filled, Turned, Pairing, PairPut};
@@ -62,7 +64,7 @@ pub fn pair(
 {
     let g = goal.0 as usize;
     let column = cols[g];
-    fill(n, column, words);
+    fill(Slot(n.0), column, words);
     cols[g] = 0;
     spare[n.0 as usize] = goal.0;
     slot[g] = n.0;

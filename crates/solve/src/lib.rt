@@ -9,7 +9,7 @@ ghost use Rattle.held.specs.Held.{Held};
 ghost use Rattle.solve.specs.Solving.{Solvable, Rooms, SettledAs};
 
 // The step count, which is the weight of the matching, and how many pairs are listed.
-#[derive(Drop)]
+#[derive(Clone, Copy)]
 pub struct Solved {
     pub steps: u32,
     pub count: usize,

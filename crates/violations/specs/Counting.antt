@@ -32,7 +32,8 @@ AsksWithin low high p = (x : ℕ) → x < 2 ^ 32 → p x ≡ costs_within low hi
 
 -- The ranks between the ends of link s whose tree edges have a cost that passes.
 abbrev pub ranks_that : List ℕ → List ℕ → List ℕ → List ℕ → List ℕ → (ℕ → Bool) → ℕ → ℕ
-ranks_that ranks as₁ as₂ as₃ mask p s = sum 64 (λ k. one (across mask (get_or as₁ s 0) (get_or as₂ s 0) k && p (cost_at as₃ ranks k)))
+ranks_that ranks as₁ as₂ as₃ mask p s = sum 64
+    (λ k. one (across mask (get_or as₁ s 0) (get_or as₂ s 0) k && p (cost_at as₃ ranks k)))
 
 -- A link of the arrays between two nodes.
 pub record Joins (s : ℕ) (as₁ as₂ : List ℕ) : Type 0 where
@@ -45,7 +46,8 @@ pub record Joins (s : ℕ) (as₁ as₂ : List ℕ) : Type 0 where
 pub record Countable (edges count : ℕ) (ranks as₁ as₂ as₄ mask : List ℕ) : Type 0 where
   pub judged : Judged edges count ranks as₁ as₂ mask
   pub lists : Lists edges (array_tree as₄) (take count ranks)
-  pub own : (k : ℕ) → k < count → (j : ℕ) → across mask (get_or as₁ (get_or ranks k 0) 0) (get_or as₂ (get_or ranks k 0) 0) j ≡ eqb k j
+  pub own : (k : ℕ) → k < count → (j : ℕ) → across mask (get_or as₁ (get_or ranks k 0) 0)
+      (get_or as₂ (get_or ranks k 0) 0) j ≡ eqb k j
 
 -- A step of link e's cost from `old` to `new`, where there are b violations before it.
 pub record StepOf (edges b e old new : ℕ) (ranks as₁ as₂ as₃ as₄ mask : List ℕ) : Type 0 where

@@ -36,7 +36,8 @@ module _ (as₁ as₂ as₃ as₄ mask : List ℕ) (s k x : ℕ) where
     pub meets_over :
         spare ≡ true → get_or as₃ s 0 ≡ x
         → across mask (get_or as₁ s 0) (get_or as₂ s 0) k ≡ (over_at as₁ as₂ as₄ mask s k && eqb (get_or as₃ s 0) x)
-    meets_over e q = rw (sym is ∙ e, eq-eqb (get_or as₃ s 0) x q) (sym (and-true (across mask (get_or as₁ s 0) (get_or as₂ s 0) k)))
+    meets_over e q = rw (sym is ∙ e, eq-eqb (get_or as₃ s 0) x q)
+        (sym (and-true (across mask (get_or as₁ s 0) (get_or as₂ s 0) k)))
 
 -- One number more, of which p holds or not.
 module _ (p : ℕ → Bool) (e found : ℕ) (so_far : found ≡ sum e (λ i. one (p i))) where
@@ -110,7 +111,8 @@ module _ (ranks as₁ as₂ as₃ as₄ mask : List ℕ) where
   pub violations_few : (edges : ℕ) → violations_at edges ranks as₁ as₂ as₃ as₄ mask ≤ edges * 64
   violations_few edges = violations_most edges 64 (over_at as₁ as₂ as₄ mask) (array_cost as₃) (cost_at as₃ ranks)
 
-  module _ (e total : ℕ) {spare : Bool} (so_far : total ≡ violations_at e ranks as₁ as₂ as₃ as₄ mask) (is : spare ≡ array_spare as₄ e) where
+  module _ (e total : ℕ) {spare : Bool} (so_far : total ≡ violations_at e ranks as₁ as₂ as₃ as₄ mask)
+      (is : spare ≡ array_spare as₄ e) where
     pub count_other : spare ≡ false → total ≡ violations_at (e + 1) ranks as₁ as₂ as₃ as₄ mask
     unfolding row_at
     count_other no-spare =
@@ -151,15 +153,18 @@ pair_none true x y =
 pub none_cheapest :
     (nodes edges count : ℕ) (ranks as₁ as₂ as₄ mask : List ℕ) (c : ℕ → ℕ) → Judged edges count ranks as₁ as₂ mask
     → paths mask ≡ (rooted (array_graph nodes edges as₁ as₂ as₄) (take count ranks)).path
-    → eqb (violations_by edges ranks as₁ as₂ as₄ mask c) 0 ≡ judge (array_graph nodes edges as₁ as₂ as₄) (array_tree as₄) c (take count ranks)
+    → eqb (violations_by edges ranks as₁ as₂ as₄ mask c) 0 ≡ judge (array_graph nodes edges as₁ as₂ as₄) (array_tree as₄)
+    c (take count ranks)
 none_cheapest nodes edges count ranks as₁ as₂ as₄ mask c h same =
     sum_zero_test edges _ ∙ all_same edges _ _ (λ s l. link_none s) ∙ judge_at nodes edges count ranks as₁ as₂ as₄ mask c h same
   where
     link_none :
         (s : ℕ) → eqb (sum 64 (λ k. one (over_at as₁ as₂ as₄ mask s k && ltb (c s) (c (get_or ranks k 0))))) 0
-        ≡ (not (array_spare as₄ s) || all_below 64 (λ k. not (across mask (get_or as₁ s 0) (get_or as₂ s 0) k) || leb (c (get_or ranks k 0)) (c s)))
+        ≡ (not (array_spare as₄ s) || all_below 64
+        (λ k. not (across mask (get_or as₁ s 0) (get_or as₂ s 0) k) || leb (c (get_or ranks k 0)) (c s)))
     link_none s =
         sum_zero_test 64 _ ∙ elim (truth (array_spare as₄ s)) [
-          | inl h ↦ rw h (all_same 64 _ _ (λ k l. pair_none (across mask (get_or as₁ s 0) (get_or as₂ s 0) k) (c s) (c (get_or ranks k 0))))
+          | inl h ↦ rw h (all_same 64 _ _
+              (λ k l. pair_none (across mask (get_or as₁ s 0) (get_or as₂ s 0) k) (c s) (c (get_or ranks k 0))))
           | inr h ↦ rw h (all_of 64 _ (λ k l. refl))
         ]

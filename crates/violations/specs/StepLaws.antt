@@ -101,7 +101,8 @@ module _ (edges count : ℕ) (ranks as₁ as₂ as₄ mask : List ℕ) (h : Coun
         ≡ violations_at edges ranks as₁ as₂ A as₄ mask + spares_at edges as₁ as₂ C as₄ mask k (get_or A e 0)
     tree_rise k t r =
         violations_same edges 64 (over_at as₁ as₂ as₄ mask) (array_cost B) (cost_at B ranks) (array_cost A)
-        (put (cost_at A ranks) k (suc (cost_at A ranks k))) (λ s j a b c. (but s (over_spare e s j (tree_out as₄ e t) c), cost j (over_rank s j c)))
+        (put (cost_at A ranks) k (suc (cost_at A ranks k)))
+        (λ s j a b c. (but s (over_spare e s j (tree_out as₄ e t) c), cost j (over_rank s j c)))
         ∙ tree_up edges 64 (over_at as₁ as₂ as₄ mask) (array_cost A) (cost_at A ranks) k (omega (arith, r.below, h.judged.few))
         ∙ ap (λ n. violations_at edges ranks as₁ as₂ A as₄ mask + n) (sum_same edges _ _ (λ s l. meet s))
       where
@@ -130,7 +131,8 @@ module _ (edges count : ℕ) (ranks as₁ as₂ as₄ mask : List ℕ) (h : Coun
     spare_rise l t =
         let moved : violations_at edges ranks as₁ as₂ B as₄ mask
         ≡ violations edges 64 (over_at as₁ as₂ as₄ mask) (put (array_cost A) e (suc (array_cost A e))) (cost_at A ranks) =
-        violations_same edges 64 (over_at as₁ as₂ as₄ mask) (array_cost B) (cost_at B ranks) (put (array_cost A) e (suc (array_cost A e)))
+        violations_same edges 64 (over_at as₁ as₂ as₄ mask) (array_cost B) (cost_at B ranks)
+        (put (array_cost A) e (suc (array_cost A e)))
         (cost_at A ranks) (λ s k a b c. (cost s, but (get_or ranks k 0) (over_tree e s k (spare_out as₄ e t) c))) in
         omega (
           arith,
@@ -151,7 +153,13 @@ module _ (edges count : ℕ) (ranks as₁ as₂ as₄ mask : List ℕ) (h : Coun
             ≡ one (over_at as₁ as₂ as₄ mask e k && eqb (cost_at A ranks k) (suc (array_cost A e)))
         meet k =
             elim (truth (over_at as₁ as₂ as₄ mask e k)) [
-              | inl c ↦ rw (c, and_second (array_spare as₄ e) _ c, any (get_or ranks k 0) (over_tree e e k (spare_out as₄ e t) c), up) refl
+              | inl c ↦ rw (
+                c,
+                and_second (array_spare as₄ e) _ c,
+                any (get_or ranks k 0)
+                    (over_tree e e k (spare_out as₄ e t) c),
+                up,
+              ) refl
               | inr c ↦ rw (c, and_miss (array_spare as₄ e) _ c t) refl
             ]
 
@@ -211,12 +219,18 @@ module _ (edges count : ℕ) (ranks as₁ as₂ as₄ mask : List ℕ) (h : Coun
           → b + r ≡ violations_at edges ranks as₁ as₂ (set as₃ e new) as₄ mask
       spare_lower l q =
           ap (λ n. n + r) step.before ∙ ap (λ n. violations_at edges ranks as₁ as₂ as₃ as₄ mask + n) (q ∙ rw step.from refl)
-          ∙ spare_rise (set as₃ e new) as₃ as₃ e (λ j d. sym (after_but j d)) (λ j d. sym (after_but j d)) (fallen l) step.inside t
+          ∙ spare_rise (set as₃ e new) as₃ as₃ e (λ j d. sym (after_but j d)) (λ j d. sym (after_but j d)) (fallen l)
+          step.inside t
 
     -- An unplugged link stands in no pair.
     pub idle_step :
         array_tree as₄ e ≡ false → array_spare as₄ e ≡ false → b ≡ violations_at edges ranks as₁ as₂ (set as₃ e new) as₄ mask
     idle_step no-tree no-spare =
         step.before
-        ∙ violations_same edges 64 (over_at as₁ as₂ as₄ mask) (array_cost as₃) (cost_at as₃ ranks) (array_cost (set as₃ e new)) (cost_at (set as₃ e new) ranks)
-        (λ s k a c o. (sym (after_but s (over_spare e s k no-spare o)), sym (after_but (get_or ranks k 0) (over_tree e s k no-tree o))))
+        ∙ violations_same edges 64 (over_at as₁ as₂ as₄ mask) (array_cost as₃) (cost_at as₃ ranks)
+        (array_cost (set as₃ e new)) (cost_at (set as₃ e new) ranks)
+        (λ s k a c o. (
+          sym (after_but s (over_spare e s k no-spare o)),
+          sym
+              (after_but (get_or ranks k 0) (over_tree e s k no-tree o)),
+        ))

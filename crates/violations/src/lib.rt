@@ -1,5 +1,7 @@
 // The pairs of a spare and a tree edge that violate the test: how many there are, and how many after a step of one cost
 // (specs/Counting.antt).
+#![tactic(auto)]
+
 ghost use Rattle.std.specs.Prelude.{◌≡◌, Bool, true, ◌&&◌, ℕ, ◌≤◌, ◌<◌, eqb, get_or, set};
 ghost use Rattle.bits.specs.Bit.{bit};
 ghost use Rattle.paths.specs.Arrays.{across};
@@ -64,7 +66,7 @@ fn spares_at(
     let mut at: usize = 0;
     while at < edges {
         let s = at as u32;
-        if meets(Edge(s), k, x, end1, end2, cost, mark, mask) {
+        if meets(Edge(s), TreeRank(k.0), x, end1, end2, cost, mark, mask) {
             found += 1;
         }
         at += 1;

@@ -10,7 +10,7 @@ use ids::Edge;
 use packets::Packet;
 
 // How far a log has been heard.
-#[derive(Drop)]
+#[derive(Clone, Copy)]
 pub struct Heard {
     // Whether every packet so far is one of the job.
     pub read: bool,

@@ -49,7 +49,8 @@ returns c =
     let a = l.before.args in (
       l.loop.invariant.0,
       limit_is a.limit a.x l.loop.p a.cost.now a.ts.now
-          (λ t h. omega (arith, c.if1.true, l.before.requires.1 t (l.loop.p - 1) (omega arith) (omega (arith, l.loop.invariant.0))))
+          (λ t h. omega (arith, c.if1.true, l.before.requires.1 t (l.loop.p - 1) (omega arith)
+            (omega (arith, l.loop.invariant.0))))
           l.loop.invariant.1,
     )
 

@@ -26,4 +26,5 @@ loop-s-preserved c =
 pub returns : goal.returns
 returns c =
     let a = c.args in
-    over_end a.from a.spares a.trees a.cols.now c.loop-s.s c.loop-s.invariant.0 c.loop-s.invariant.1 c.loop-s.invariant.2 (omega arith)
+    over_end a.from a.spares a.trees a.cols.now c.loop-s.s c.loop-s.invariant.0 c.loop-s.invariant.1 c.loop-s.invariant.2
+      (omega arith)

@@ -117,7 +117,8 @@ loop-less : tie.Need-loop-smaller invariant-loop decreases-loop
 loop-less c =
     let i = c.before.before.before.before.before.before.before.before.before.before.before.before.before in
     let l = i.before.loop in
-    fewer 64 l.free c.without-lowest.result (omega (arith, i.loop-test.true)) l.invariant.small (omega (arith, c.without-lowest.type-inv))
+    fewer 64 l.free c.without-lowest.result (omega (arith, i.loop-test.true)) l.invariant.small
+      (omega (arith, c.without-lowest.type-inv))
     c.without-lowest.ensures
 
 loop-again : tie.Need-loop-preserved invariant-loop decreases-loop

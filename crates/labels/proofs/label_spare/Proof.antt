@@ -70,7 +70,8 @@ label-from-requires : tie.Need-label-from-requires
 label-from-requires c κs =
     let e = c.before.before.before.before.before.before.before.before.before.before.before.before.before in
     let a = e.args in
-    (e.requires.1.1.partners (get_or a.slot.now a.s.0 0) (slot_below c.before.before.before.before.before.before.before.before), e.requires.1.1)
+    (e.requires.1.1.partners (get_or a.slot.now a.s.0 0)
+      (slot_below c.before.before.before.before.before.before.before.before), e.requires.1.1)
 
 returns-3 : tie.Need-returns-3
 returns-3 c =

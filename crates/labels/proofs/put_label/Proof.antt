@@ -42,7 +42,8 @@ without-lowest-requires c κs = omega arith
 loop-less : tie.Need-loop-smaller invariant-loop decreases-loop
 loop-less c =
     let l = c.before.before.before.loop in
-    fewer 64 l.left c.without-lowest.result (omega (arith, c.before.before.loop-test.true)) l.invariant.small (omega (arith, c.without-lowest.type-inv))
+    fewer 64 l.left c.without-lowest.result (omega (arith, c.before.before.loop-test.true)) l.invariant.small
+      (omega (arith, c.without-lowest.type-inv))
     c.without-lowest.ensures
 
 loop-again : tie.Need-loop-preserved invariant-loop decreases-loop

@@ -99,25 +99,32 @@ element-copy-out-costs-4 : tie.Need-element-copy-out-costs-4 invariant-loop decr
 element-copy-out-costs-4 c = omega (arith, few c.before.before.before.before.before.before)
 
 cast-costs-4 : tie.Need-overflow-cast-costs-4 invariant-loop decreases-loop
-cast-costs-4 c = let i = c.before.before.before.before.before.before.before.before in omega (arith, tree_edge_lem i, spare_edge_lem i)
+cast-costs-4 c = let i = c.before.before.before.before.before.before.before.before in omega
+    (arith, tree_edge_lem i, spare_edge_lem i)
 
 mul-costs-6 : tie.Need-overflow-mul-costs-6 invariant-loop decreases-loop
-mul-costs-6 c = let i = c.before.before.before.before.before.before.before.before in omega (arith, tree_edge_lem i, spare_edge_lem i)
+mul-costs-6 c = let i = c.before.before.before.before.before.before.before.before in omega
+    (arith, tree_edge_lem i, spare_edge_lem i)
 
 element-write-costs-2 : tie.Need-element-write-costs-2 invariant-loop decreases-loop
-element-write-costs-2 c = let i = c.before.before.before.before.before.before.before.before in omega (arith, tree_edge_lem i, spare_edge_lem i)
+element-write-costs-2 c = let i = c.before.before.before.before.before.before.before.before in omega
+    (arith, tree_edge_lem i, spare_edge_lem i)
 
 add-mate : tie.Need-overflow-add-mate invariant-loop decreases-loop
-add-mate c = let i = c.before.before.before.before.before.before.before.before.before in omega (arith, tree_edge_lem i, spare_edge_lem i)
+add-mate c = let i = c.before.before.before.before.before.before.before.before.before in omega
+    (arith, tree_edge_lem i, spare_edge_lem i)
 
 cast-mate : tie.Need-overflow-cast-mate invariant-loop decreases-loop
-cast-mate c = let i = c.before.before.before.before.before.before.before.before.before.before in omega (arith, tree_edge_lem i, spare_edge_lem i)
+cast-mate c = let i = c.before.before.before.before.before.before.before.before.before.before in omega
+    (arith, tree_edge_lem i, spare_edge_lem i)
 
 mul-mate : tie.Need-overflow-mul-mate invariant-loop decreases-loop
-mul-mate c = let i = c.before.before.before.before.before.before.before.before.before.before in omega (arith, tree_edge_lem i, spare_edge_lem i)
+mul-mate c = let i = c.before.before.before.before.before.before.before.before.before.before in omega
+    (arith, tree_edge_lem i, spare_edge_lem i)
 
 element-write-mate : tie.Need-element-write-mate invariant-loop decreases-loop
-element-write-mate c = let i = c.before.before.before.before.before.before.before.before.before.before in omega (arith, tree_edge_lem i, spare_edge_lem i)
+element-write-mate c = let i = c.before.before.before.before.before.before.before.before.before.before in omega
+    (arith, tree_edge_lem i, spare_edge_lem i)
 
 add-k : tie.Need-overflow-add-k invariant-loop decreases-loop
 add-k c = omega (arith, few c.before.before.before.before.before.before.before.before.before.before)
@@ -146,7 +153,8 @@ returns c =
     let l = c.before.loop in
     let a = c.before.before.args in
     let done : a.slots ≤ l.k = c.loop-test.false in (
-      sym (costs_end a.slots a.ts.now a.ss.now a.links.now a.spare.now a.label.now l.k (λ e. get_or l.costs e 0) done) ∙ l.invariant.2,
+      sym (costs_end a.slots a.ts.now a.ss.now a.links.now a.spare.now a.label.now l.k (λ e. get_or l.costs e 0) done)
+        ∙ l.invariant.2,
       (
         sym (partners_end a.slots a.ts.now a.ss.now a.links.now a.spare.now a.label.now l.k (λ e. get_or l.mate e 0) done)
             ∙ l.invariant.3,

@@ -1,0 +1,31 @@
+-- The part lies between the position behind the numbers before the link and the one behind its four. Assumes nothing.
+use Rattle.std.proofs.Common.{sym}
+use Rattle.job.specs.Finding.{found, find_none, ends_order, part_within, find_place}
+use Rattle.job.proofs.link_part.Goals as goal
+
+pub returns-then-edges-e-clause-place : goal.returns-then-edges-e-clause-place
+returns-then-edges-e-clause-place c =
+    let z = c.if-refusal-ne0.false in
+    let f = found c.args.frame.now (λ i. (c.type_inv.frame i).fits) c.args.header z (c.requires z) in
+    sym (find_none c.args.frame.now c.args.header z f c.args.edge.0 c.if-edges-e.true)
+
+pub overflow_sub-result : goal.overflow_sub-result
+overflow_sub-result c =
+    let z = c.if-refusal-ne0.false in
+    let f = found c.args.frame.now (λ i. (c.type_inv.frame i).fits) c.args.header z (c.requires z) in
+    ends_order c.args.frame.now c.args.header z f c.args.edge.0 c.skip-first.result c.skip-end.result c.if-edges-e.false
+    c.skip-first.ensures c.skip-end.ensures
+
+pub returns-clause-place : goal.returns-clause-place
+returns-clause-place c =
+    let z = c.if-refusal-ne0.false in
+    let f = found c.args.frame.now (λ i. (c.type_inv.frame i).fits) c.args.header z (c.requires z) in
+    find_place c.args.frame.now c.args.header z f c.args.edge.0 c.skip-first.result c.skip-end.result c.if-edges-e.false
+    c.skip-first.ensures c.skip-end.ensures
+
+pub returns-clause-within : goal.returns-clause-within
+returns-clause-within c =
+    let z = c.if-refusal-ne0.false in
+    let f = found c.args.frame.now (λ i. (c.type_inv.frame i).fits) c.args.header z (c.requires z) in
+    part_within c.args.frame.now c.args.header z f c.args.edge.0 c.skip-first.result c.skip-end.result c.if-edges-e.false
+    c.skip-first.ensures c.skip-end.ensures
