@@ -1,4 +1,6 @@
 // Reads a packet log, packet by packet, and replays it over the costs.
+#![tactic(auto)]
+
 ghost use Rattle.std.specs.Prelude.{◌≡◌, ◌≤◌, length, drop};
 ghost use Rattle.std.proofs.Math.Option.{map};
 ghost use Rattle.limits.specs.Limits.{max_number};
