@@ -13,7 +13,7 @@ use Rattle.loops.specs.TestLaws.{truth, all_same}
 use Rattle.loops.specs.GatherLaws.{get_d_tabulate}
 use Rattle.records.specs.declared.Link.{Link}
 use Rattle.records.specs.Records.{zero_link, column_put, small_link, all_small, list_copy}
-use Rattle.records.specs.RecordsLaws.{firsts_take, filled_length, filled_at, filled_past, all_small_whole}
+use Rattle.records.proofs.RecordsLaws.{firsts_take, filled_length, filled_at, filled_past, all_small_whole}
 use Rattle.frame.specs.Job.{JobLink, Job, no_link, link, job_frame}
 use Rattle.limits.specs.Limits.{max_nodes, max_edges, max_number}
 use Rattle.frame.specs.Questions.{ask, refusal, counted, list_refusal}

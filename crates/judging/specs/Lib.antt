@@ -1,3 +1,2 @@
 -- What the judges say, and laws about it.
 pub mod Verdicts
-pub mod VerdictLaws

@@ -20,7 +20,7 @@ use Rattle.frame.proofs.Accepted.{numbers_bytes}
 use Rattle.judging.specs.declared.Verdict.{Verdict}
 use Rattle.judging.specs.declared.Verdict.TheVariants.{Refused}
 use Rattle.judging.specs.Verdicts.{VerdictOn}
-use Rattle.judging.specs.VerdictLaws.{refused_judged}
+use Rattle.judging.proofs.VerdictLaws.{refused_judged}
 use Rattle.answering.specs.Answering.{Untouched}
 use Rattle.answering.specs.AnswerLaws.{answered_of}
 use Rattle.finding.specs.PartLaws.{cost_refused_nowhere}

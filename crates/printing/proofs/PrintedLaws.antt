@@ -20,7 +20,7 @@ use Rattle.frame.proofs.Outcomes.{accepted_written}
 use Rattle.codec.specs.declared.Reply.{Reply}
 use Rattle.codec.specs.Numbers.{outcome}
 use Rattle.records.specs.Records.{zero_link}
-use Rattle.records.specs.RecordsLaws.{firsts_at}
+use Rattle.records.proofs.RecordsLaws.{firsts_at}
 use Rattle.answering.specs.Answering.{Answered}
 use Rattle.judging.specs.Verdicts.{verdict}
 use Rattle.reading.specs.declared.JobRead.{JobRead}

@@ -28,7 +28,7 @@ use Rattle.answer_read.specs.AnswerLaws.{found_answer, missed_answer}
 use Rattle.judging.specs.declared.Verdict.{Verdict}
 use Rattle.judging.specs.declared.Verdict.TheVariants.{Yes, No, Refused}
 use Rattle.judging.specs.Verdicts.{verdict, AnswerJudged}
-use Rattle.judging.specs.VerdictLaws.{answer_judged_of}
+use Rattle.judging.proofs.VerdictLaws.{answer_judged_of}
 use Rattle.reading.specs.AnswersRead.{unread, answer_read, read_of, answer_of_read, AnswerGiven}
 use Rattle.reading.specs.declared.AnswerRead.{AnswerRead}
 

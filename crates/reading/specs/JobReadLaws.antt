@@ -13,7 +13,7 @@ use Rattle.frame.proofs.Form.{first_no}
 use Rattle.frame.proofs.Accepted.{accepted, write_read6}
 use Rattle.records.specs.declared.Link.{Link}
 use Rattle.records.specs.Records.{zero_link, first_links}
-use Rattle.records.specs.RecordsLaws.{firsts_none, firsts_more, firsts_all, firsts_length, firsts_at}
+use Rattle.records.proofs.RecordsLaws.{firsts_none, firsts_more, firsts_all, firsts_length, firsts_at}
 use Rattle.held.specs.Held.{Stored}
 use Rattle.accept.specs.ListJobs.{job_link}
 use Rattle.reading.specs.JobsRead.{link_of, gathered, refused_read, given_of, job_in, JobGiven}

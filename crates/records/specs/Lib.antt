@@ -1,3 +1,2 @@
 -- Links lent as a list of records: what is copied of the list, what is asked of its numbers, and the laws.
 pub mod Records
-pub mod RecordsLaws

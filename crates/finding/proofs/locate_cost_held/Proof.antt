@@ -8,7 +8,7 @@ use Rattle.number.specs.Number.{Bytes}
 use Rattle.judging.specs.declared.Verdict.TheVariants.{Yes}
 use Rattle.judging.specs.contracts.Verdict.{the_type}
 use Rattle.accept.specs.AskedLaws.{asked_number, asked_edges, held_asked}
-use Rattle.judging.specs.VerdictLaws.{yes_accepted}
+use Rattle.judging.proofs.VerdictLaws.{yes_accepted}
 use Rattle.finding.specs.PartLaws.{cost_unlinked, cost_unjudged, cost_in, cost_handed}
 use borrow.Author.Rules.{rules}
 use Rattle.finding.proofs.locate_cost_held.Statement.{statement}

@@ -7,7 +7,7 @@ use Rattle.number.specs.Number.{Bytes}
 use Rattle.frame.specs.Questions.{job_of, refusal}
 use Rattle.frame.specs.Answers.{judge_answer}
 use Rattle.accept.specs.AskedLaws.{asked_number}
-use Rattle.judging.specs.VerdictLaws.{answer_judged_of, verdict_refused, verdict_word}
+use Rattle.judging.proofs.VerdictLaws.{answer_judged_of, verdict_refused, verdict_word}
 use borrow.Author.Rules.{rules}
 use Rattle.judging.proofs.judge_answer_held.Goals as goal
 

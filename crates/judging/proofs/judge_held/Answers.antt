@@ -7,7 +7,7 @@ use Rattle.frame.specs.Answers.{judge_tree}
 use Rattle.held.specs.HeldLaws.{some_node, paths_held}
 use Rattle.certify.specs.JudgedLaws.{judged_held, falls_held, judge_held}
 use Rattle.accept.specs.AskedLaws.{asked_number}
-use Rattle.judging.specs.VerdictLaws.{tree_judged_of, verdict_refused, verdict_word}
+use Rattle.judging.proofs.VerdictLaws.{tree_judged_of, verdict_refused, verdict_word}
 use borrow.Author.Rules.{rules}
 use Rattle.judging.proofs.judge_held.Goals as goal
 

@@ -3,7 +3,7 @@ use Rattle.limits.specs.Limits.{max_number}
 use Rattle.records.specs.declared.Link.{Link}
 use Rattle.records.specs.declared.ListCopy.{ListCopy}
 use Rattle.records.specs.Records.{zero_link, first_links, small_to, small_link}
-use Rattle.records.specs.RecordsLaws.{firsts_none, firsts_more, firsts_full, firsts_all, small_none, small_more}
+use Rattle.records.proofs.RecordsLaws.{firsts_none, firsts_more, firsts_full, firsts_all, small_none, small_more}
 use Rattle.records.proofs.copy_list.Goals as goal
 use Rattle.records.proofs.copy_list.Goals.{then-i-lt-MOST_COUNT, else-i-lt-MOST_COUNT}
 

@@ -1,6 +1,6 @@
 -- `records::small` meets its contract: the definition's four tests at once.
 -- Assumes nothing.
-use Rattle.records.specs.RecordsLaws.{small_at_once}
+use Rattle.records.proofs.RecordsLaws.{small_at_once}
 use Rattle.records.proofs.small.Statement.{statement}
 use Rattle.records.proofs.small.Tie as tie
 

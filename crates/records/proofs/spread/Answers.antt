@@ -1,7 +1,7 @@
 use Rattle.std.proofs.Common.{arith, ◌∙◌, ap, ◌≡◌, List, ℕ}
 use Rattle.records.specs.declared.Link.{Link}
 use Rattle.records.specs.Records.{column_put}
-use Rattle.records.specs.RecordsLaws.{filled_none, filled_more}
+use Rattle.records.proofs.RecordsLaws.{filled_none, filled_more}
 use Rattle.records.proofs.spread.Goals as goal
 
 pub loop-i-init : goal.loop-i-init
