@@ -1,4 +1,6 @@
 // Finds one link's four numbers in a job frame and its new cost in an answer frame, as the frame's own bytes.
+#![tactic(auto)]
+
 ghost use Rattle.std.specs.Prelude.{◌≡◌, ◌≢◌, List, ℕ};
 ghost use Rattle.frame.specs.Services.{nowhere};
 ghost use Rattle.codec.specs.Numbers.{place_of};
