@@ -3,7 +3,7 @@ use Prim.Native.Nat.{ℕ, zero, suc, ◌+◌, ◌-◌, ◌/◌, ◌%◌, ◌<◌
 use Rattle.std.proofs.Math.Decide.{ℕ_discrete}
 use Rattle.std.proofs.Math.Numerals.{add-one}
 use native.Mathlib.Omega.{arith}
-use Rattle.std.specs.Prelude.{◌≡◌, refl, Bool, true, false, List, [], eqb, ℤ, pos, ◌+ℤ◌, set, drop}
+use Rattle.std.specs.Prelude.{◌≡◌, refl, Bool, true, false, List, eqb, ℤ, pos, ◌+ℤ◌, set, drop}
 use Rattle.std.proofs.Math.Path.{sym, ap}
 use Rattle.std.proofs.Common.{◌∙◌, length-drop, drop_of_length-le, drop-cons, take_all, get_or-set_same, get_or-set_other}
 use Rattle.std.proofs.Math.Option.{Option, some, none}
@@ -31,7 +31,6 @@ use Rattle.sheet.specs.Reading.{costs_from, read_costs, costs_at, with_code, wit
 use Rattle.sheet.specs.Reading.{apply_from, behind_count, apply_sheet}
 use Rattle.sheet.proofs.ChangeLaws.{cost_found}
 use Rattle.sheet.proofs.EntryLaws.{entry_size}
-use Rattle.sheet_read.specs.declared.Entry.{Entry}
 use Rattle.sheet_read.specs.declared.Entry.TheVariants.{Moved, Refused}
 use Rattle.sheet_read.specs.declared.Cost.TheVariants.{Inside, Outside}
 use Rattle.sheet_read.specs.Applying.{entered, entry_at, in_range, given}

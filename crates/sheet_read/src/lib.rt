@@ -1,4 +1,6 @@
 // Reads what a host sends beside a job: new costs in link order, or a step sheet, which is applied to the costs.
+#![tactic(auto)]
+
 ghost use Rattle.std.specs.Prelude.{◌≡◌, ◌≤◌, pos, ◌+ℤ◌, length};
 ghost use Rattle.limits.specs.Limits.{max_number};
 ghost use Rattle.codec.specs.Numbers.{numbers_at};
@@ -110,6 +112,7 @@ pub fn apply_moves(sheet: &[u8], edges: usize, costs: &mut [u32; 256]) -> bool
 }
 
 // Reads one cost for each of the links; false, if the frame does not hold just these.
+#[tactic(auto, using(crate::specs::ApplyLaws::costs_wrong))]
 pub fn read_costs(frame: &[u8], edges: usize, costs: &mut [u32; 256]) -> bool
     requires edges_bound { edges ≤ 256 }
     requires costs_len { length costs.old ≡ 256 }
