@@ -27,7 +27,7 @@ module _ (cost ts ss : List ℕ) (trees q limit limit' i : ℕ) (within : i < q)
   limit_all t l = elim (dec_lt t limit) [
     | yes h ↦ found t h
     | no h ↦ le-ltb (cost_at cost ss i) (cost_at cost ts t) (cut t i (omega arith) l (omega arith) within)
-      ∙ sym (le-ltb t limit' (omega arith))
+        ∙ sym (le-ltb t limit' (omega arith))
   ]
 
   pub limit_cuts : (t s : ℕ) → limit' ≤ t → t < trees → i ≤ s → s < q → cost_at cost ts t ≤ cost_at cost ss s
@@ -57,5 +57,5 @@ module _ (trees : ℕ) (cost ts ss end₁ end₂ mask : List ℕ) (cols : List �
       new t = elim (dec_lt t trees) [
         | yes h ↦ rw (lt-ltb t trees h, dearer t h) refl
         | no h ↦ rw (le-ltb t trees (omega arith), le-ltb t limit (omega arith))
-          (and-false (covers end₁ end₂ mask (get_or ss i 0) t))
+            (and-false (covers end₁ end₂ mask (get_or ss i 0) t))
       ]

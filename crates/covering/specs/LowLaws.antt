@@ -43,14 +43,19 @@ module _ {trees edges : ℕ} {cost ts end₁ end₂ mask : List ℕ} (h : Crosse
 
   -- An edge that costs as much as that.
   pub none_dearer : (e top : ℕ) → top ≡ dearest_of trees cost ts → top ≤ get_or cost e 0 → false
-    ≡ undercutting 64 cost ts end₁ end₂ mask e
+      ≡ undercutting 64 cost ts end₁ end₂ mask e
   none_dearer e top is dear =
       same_test _ _ (λ u. clash u refl) λ u.
       let s = some_at 64 (over e) u in
       let t : ℕ = s.0 in
       let below : t < trees = covered_below e t (and_first _ _ s.2) in
-      absurd (omega (arith, is, at_most t below, ltb-true (get_or cost e 0) (cost_at cost ts t)
-        (and_second (covers end₁ end₂ mask e t) _ s.2)))
+      absurd (omega (
+        arith,
+        is,
+        at_most t below,
+        ltb-true (get_or cost e 0) (cost_at cost ts t)
+            (and_second (covers end₁ end₂ mask e t) _ s.2),
+      ))
 
   module _ (e w : ℕ) (word : (t : ℕ) → bit w t ≡ covers end₁ end₂ mask e t) where
     -- An edge that covers nothing.
@@ -165,11 +170,11 @@ module _ {trees edges : ℕ} {cost mark ts end₁ end₂ mask : List ℕ} {spare
 
   -- Each of them undercuts some tree rank, so that its column is not empty.
   pub low_column : (cols : List ℕ) → ColumnsHold trees spares cost ts ss end₁ end₂ mask cols → (s : ℕ) → s < spares
-    → get_or cols s 0 ≢ 0
+      → get_or cols s 0 ≢ 0
   low_column cols hold s l empty =
       let e : ℕ = get_or ss s 0 in
       let inside : is_low trees cost mark ts end₁ end₂ mask e ≡ true = rw (low_at s l)
-        (listed.inside s (omega (arith, r.size))) in
+      (listed.inside s (omega (arith, r.size))) in
       let u = some_at trees (λ t. covers end₁ end₂ mask e t && ltb (get_or cost e 0) (cost_at cost ts t))
-        (and_second (marks_spare (get_or mark e 0)) _ inside) in
+      (and_second (marks_spare (get_or mark e 0)) _ inside) in
       clash (hold u.0 s l ∙ and_both _ _ (lt-ltb u.0 trees u.1) u.2) (rw empty (bit_zero u.0))

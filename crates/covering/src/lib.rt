@@ -1,5 +1,7 @@
 // The spares that cost less than a tree edge that they cover, by rank; and for each of these ranks the tree ranks that it covers
 // and undercuts, as a column (specs/Covers.antt).
+#![tactic(auto)]
+
 ghost use Rattle.std.specs.Prelude.{◌≡◌, false, ℕ, ◌<◌, ◌≤◌, ltb, length, get_or};
 ghost use Rattle.bits.specs.Bit.{bit};
 ghost use Rattle.graph.specs.Rank.{Ranks, cost_at};
