@@ -34,8 +34,11 @@ pub rank_put_both :
     (k : ℕ) (p q : ℕ → Bool) (adj adj' adj'' : List ℕ) → RankPut k p adj adj' → RankPut k q adj' adj''
     → RankPut k (λ v. p v || q v) adj adj''
 rank_put_both k p q adj adj' adj'' f g =
-    record { places = g.places; own = λ v j. g.own v j ∙ rw (f.own v j)
-      (both_put (bit (get_or adj v 0) j) (p v) (q v) (eqb k j)) }
+    record {
+      places = g.places;
+      own = λ v j. g.own v j ∙ rw (f.own v j)
+          (both_put (bit (get_or adj v 0) j) (p v) (q v) (eqb k j));
+    }
 
 -- Another number is below the next bound if it is below this one.
 pub passed : (j k : ℕ) → (j ≡ k → ⊥) → ltb j (k + 1) ≡ ltb j k
@@ -66,7 +69,7 @@ adjacency_turn ranks as₁ as₂ k adj adj' h f =
       places = f.places;
       own = λ v j. f.own v j ∙ rw (h.own v j) (elim (ℕ_discrete j k) [
         | yes e ↦ rw (e, le-ltb k k (omega arith), lt-ltb k (k + 1) (omega arith), eq-eqb k k refl)
-          (and-true (end_of as₁ as₂ (get_or ranks k 0) v))
+            (and-true (end_of as₁ as₂ (get_or ranks k 0) v))
         | no d ↦
             rw (ne_eqb k j (λ e. d (sym e)), passed j k d, and-false (end_of as₁ as₂ (get_or ranks k 0) v))
             (or-false (ltb j k && end_of as₁ as₂ (get_or ranks j 0) v))

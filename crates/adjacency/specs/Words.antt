@@ -34,4 +34,4 @@ pub record Adjacency (count : ℕ) (ranks as₁ as₂ adj : List ℕ) : Type 0 w
   pub own :
       (v k : ℕ)
       → bit (get_or adj v 0) k ≡ (ltb k count &&
-        (eqb (get_or as₁ (get_or ranks k 0) 0) v || eqb (get_or as₂ (get_or ranks k 0) 0) v))
+      (eqb (get_or as₁ (get_or ranks k 0) 0) v || eqb (get_or as₂ (get_or ranks k 0) 0) v))

@@ -100,7 +100,7 @@ unfolding judge
 judge_at nodes edges count ranks as₁ as₂ as₄ mask c h same =
     all_same edges _ _ (λ s l. ap (λ b. not (array_spare as₄ s) || b)
     (sym (all_longer count 64 _ (omega (arith, h.few))
-      (λ k b. rw (across_past edges count ranks as₁ as₂ mask h (get_or as₁ s 0) (get_or as₂ s 0) k b)))
+    (λ k b. rw (across_past edges count ranks as₁ as₂ mask h (get_or as₁ s 0) (get_or as₂ s 0) k b)))
     ∙ rw (length-take-le count ranks h.within) (all_same count _ _ (λ k b.
     rw (across_covers nodes edges as₁ as₂ as₄ mask (take count ranks) same s k, get_or-take count ranks k 0 b)))))
 

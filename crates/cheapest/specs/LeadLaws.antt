@@ -52,7 +52,7 @@ module _ (ranks as₃ : List ℕ) where
 
   -- One more rank, whose cost is `price`.
   module _ (k falling least price : ℕ) (h : Passed k ranks as₃ falling least) (is : price ≡ cost_at as₃ ranks k)
-    (fits : price < 2 ^ 32) where
+      (fits : price < 2 ^ 32) where
     -- It costs no more than any lower one if it costs at most the least so far.
     told : (j : ℕ) → j ≡ k → leb price least ≡ not_dearer (k + 1) ranks as₃ j
     told j e =
@@ -73,7 +73,7 @@ module _ (ranks as₃ : List ℕ) where
 
     pub passed_lower :
         (falling' : ℕ) → ((j : ℕ) → bit falling' j ≡ (bit falling j || eqb k j)) → price ≤ least
-          → Passed (k + 1) ranks as₃ falling' price
+        → Passed (k + 1) ranks as₃ falling' price
     passed_lower falling' with l =
         record {
           own = λ j. with j ∙ elim (ℕ_discrete j k) [
@@ -96,7 +96,7 @@ module _ (ranks as₃ : List ℕ) where
       → FallAlong count falling ranks as₃
   falls_word count falling h j k l m b =
       leb-true _ _ (all_at k (λ i. leb (cost_at as₃ ranks k) (cost_at as₃ ranks i))
-        (and_second (ltb k count) _ (sym (h k) ∙ b)) j l)
+      (and_second (ltb k count) _ (sym (h k) ∙ b)) j l)
 
 -- ---- the ranks of a word that may be its dearest
 
@@ -127,7 +127,7 @@ module _ (ranks as₃ : List ℕ) (word falling left limit : ℕ)
             elim (truth (bit falling k)) [
               | inl t ↦
                   let most : cost_at as₃ ranks low ≤ limit = leb-true _ limit
-                    (first_passes low (omega arith) refl (lowest_is.hit (omega arith))) in
+                  (first_passes low (omega arith) refl (lowest_is.hit (omega arith))) in
                   le-leb _ limit (omega (arith, falls low k c b t, most))
               | inr n ↦ passes k l (rw (b, n) refl)
             ]
@@ -149,12 +149,12 @@ module _ (ranks as₃ : List ℕ) (word falling left limit : ℕ)
 
       first_passes : (j : ℕ) → j < 64 → first 64 (bit word) ≡ j → bit word j ≡ true → leb (cost_at as₃ ranks j) limit ≡ true
       first_passes j m e q = passes j m
-        (and_both _ _ q (or_test (not (bit falling j)) _ ∙ rw (eq-eqb (first 64 (bit word)) j e) refl))
+          (and_both _ _ q (or_test (not (bit falling j)) _ ∙ rw (eq-eqb (first 64 (bit word)) j e) refl))
 
   pub lead_tells :
       (p : ℕ → Bool) → ((k : ℕ) → bit word k ≡ p k)
       → all_below 64 (λ k. not (bit left k) || leb (cost_at as₃ ranks k) limit)
-        ≡ all_below 64 (λ k. not (p k) || leb (cost_at as₃ ranks k) limit)
+      ≡ all_below 64 (λ k. not (p k) || leb (cost_at as₃ ranks k) limit)
   unfolding ok
   lead_tells p same =
       same_test _ _

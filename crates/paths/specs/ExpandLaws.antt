@@ -81,7 +81,7 @@ module _ (word : ℕ) (ranks as₁ as₂ : List ℕ) (st₀ : Rooted) where
 
       pub trying_turn :
           (left' : ℕ) (next : Rooted) → left' < 2 ^ 64 →
-            ((j : ℕ) → bit left' j ≡ (bit left j && not (eqb j (first 64 (bit left)))))
+          ((j : ℕ) → bit left' j ≡ (bit left j && not (eqb j (first 64 (bit left)))))
           → next ≡ tried_rank ranks as₁ as₂ k st → Trying left' next
       trying_turn left' next fits out e =
           let without : bit left' ≡ put (bit left) k false = taken_out left some h.fits k low left' out in
@@ -125,15 +125,20 @@ module _ (count : ℕ) (ranks as₁ as₂ adj : List ℕ) (few : count ≤ 64) (
       ∙ only_shorter (tried_rank ranks as₁ as₂) (bit (get_or adj v 0)) count (64 - count) 0 st
       (λ k l. rw (h.own v k, le-ltb k count (omega arith)))
       ∙ scan_same _ (try_at (array_graph nodes edges as₁ as₂ as₄) (take count ranks) v) count 0 st
-      (λ k s b l. rw (h.own v k, lt-ltb k count (omega arith), grow_tried nodes edges k as₄ s (omega arith), get_or-take
-        count ranks k 0 (omega arith)))
+      (λ k s b l. rw (
+        h.own v k,
+        lt-ltb k count (omega arith),
+        grow_tried nodes edges k as₄ s (omega arith),
+        get_or-take
+            count ranks k 0 (omega arith),
+      ))
       ∙ ap (λ n. scan (try_at (array_graph nodes edges as₁ as₂ as₄) (take count ranks) v) n 0 st)
-        (sym (length-take-le count ranks within))
+      (sym (length-take-le count ranks within))
 
   -- They name edges between nodes, and so do some of them.
   pub word_named :
       (nodes : ℕ) → RankedEnds nodes count ranks as₁ as₂ → (v word : ℕ)
-        → ((k : ℕ) → bit word k ≡ true → bit (get_or adj v 0) k ≡ true)
+      → ((k : ℕ) → bit word k ≡ true → bit (get_or adj v 0) k ≡ true)
       → Named word ranks as₁ as₂
   word_named nodes r v word part =
       record {

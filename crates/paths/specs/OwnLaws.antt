@@ -74,9 +74,9 @@ module _ (ranks as₁ as₂ : List ℕ) where
         Own s = (k : ℕ) → st.path v k ≡ true → Ends k s
 
         turn : (k : ℕ) (s : Rooted) → Own s → only (bit word) (tried_rank ranks as₁ as₂) k s
-          ≡ only (bit all) (tried_rank ranks as₁ as₂) k s
+            ≡ only (bit all) (tried_rank ranks as₁ as₂) k s
         turn k s p = rw (out k) (left_out (bit all k) (st.path v k) _ s
-          (λ on. tried_both (end₁ k) (end₂ k) k s (p k on).0 (p k on).1))
+            (λ on. tried_both (end₁ k) (end₂ k) k s (p k on).0 (p k on).1))
 
         kept : (k : ℕ) (s : Rooted) → Own s → Own (only (bit all) (tried_rank ranks as₁ as₂) k s)
         kept k s p j on = cond_both (Ends j) (bit all k) _ s (λ _. ends_tried k s j (p j on)) (λ _. p j on)

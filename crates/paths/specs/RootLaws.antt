@@ -42,7 +42,7 @@ module _ (g : Graph) (ranks : List ℕ) where
       scan_keeps (try_at g ranks v) P (length ranks) 0 st start
       (λ k s a b p. cond_both P (touches g ranks v k) _ _
       (λ _. tried_keeps (g.end₁ (get_or ranks k 0)) (g.end₂ (get_or ranks k 0)) k s P p (λ _. forth k s (omega arith) p)
-        (λ _. back k s (omega arith) p))
+      (λ _. back k s (omega arith) p))
       (λ _. p))
 
   scan_few : (v turns i : ℕ) (st : Rooted) → (scan (try_at g ranks v) turns i st).found ≤ st.found + turns
@@ -62,7 +62,7 @@ module _ (g : Graph) (ranks : List ℕ) where
   round_last zero done st none = refl
   round_last (suc rounds) done st none =
       let f : First g.nodes (waits done st) g.nodes = record
-        { within = omega arith; before = λ i l. none i; hit = λ l. absurd (omega arith) } in
+      { within = omega arith; before = λ i l. none i; hit = λ l. absurd (omega arith) } in
       rw (first_found f, le-ltb g.nodes g.nodes (omega arith))
 
   round_more :
@@ -82,7 +82,7 @@ room_graph nodes as₁ as₂ = array_graph nodes 256 as₁ as₂ []
 all_alike :
     (nodes edges : ℕ) (as₁ as₂ as₄ ranks : List ℕ) (rounds : ℕ) (done : ℕ → Bool) (st : Rooted)
     → expand_all (room_graph nodes as₁ as₂) ranks rounds done st
-      ≡ expand_all (array_graph nodes edges as₁ as₂ as₄) ranks rounds done st
+    ≡ expand_all (array_graph nodes edges as₁ as₂ as₄) ranks rounds done st
 unfolding expand_all grow
 all_alike nodes edges as₁ as₂ as₄ ranks zero done st = refl
 all_alike nodes edges as₁ as₂ as₄ ranks (suc rounds) done st =
@@ -100,7 +100,7 @@ root_held : (n : ℕ) → held (record { found = 1; reached = 1 }) (replicate n 
 root_held n =
     let nodes : bit 1 ≡ put (λ _. false) 0 true = fun_ext (λ j. bit_power 0 j ∙ chosen (eqb 0 j)) in
     let none : paths (replicate n 0) ≡ (λ _ _. false) = fun_ext
-      (λ v. fun_ext (λ k. ap (λ w. bit w k) (none_held n v) ∙ bit_zero k)) in
+    (λ v. fun_ext (λ k. ap (λ w. bit w k) (none_held n v) ∙ bit_zero k)) in
     rw (nodes, none)
 
 module _ (nodes count : ℕ) (ranks as₁ as₂ : List ℕ) where
@@ -122,7 +122,7 @@ module _ (nodes count : ℕ) (ranks as₁ as₂ : List ℕ) where
         inside = λ some v b. omega (arith, eqb-true 0 v (sym (bit_power 0 v) ∙ b));
         known = λ w k on. clash on (ap (λ (st : Rooted). st.path w k) (root_held 64));
         rest = rw (root_held 64) (ap (λ d. expand_all (room_graph nodes as₁ as₂) (take count ranks) nodes d root)
-          (fun_ext bit_zero));
+            (fun_ext bit_zero));
       }
 
   walked :
@@ -146,7 +146,7 @@ module _ (nodes count : ℕ) (ranks as₁ as₂ : List ℕ) where
   rounds_end (suc rounds) front done mask h l = absurd (omega arith)
 
   module _ (rounds : ℕ) (front : Front) (done : ℕ) (mask : List ℕ) (h : Rounds rounds front done mask) (l : 0 < rounds)
-    (waiting : ℕ)
+      (waiting : ℕ)
       (apart : (j : ℕ) → bit waiting j ≡ (bit front.reached j && not (bit done j))) where
     pub rounds_last : waiting ≡ 0 → Walked nodes count ranks as₁ as₂ front.found mask
     rounds_last e =
@@ -169,7 +169,7 @@ module _ (nodes count : ℕ) (ranks as₁ as₂ : List ℕ) where
       module _ (ranked : RankedEnds nodes count ranks as₁ as₂) (adj : List ℕ) (words : Adjacency count ranks as₁ as₂ adj)
           (word : ℕ) (out : (j : ℕ) → bit word j ≡ (bit (get_or adj v 0) j && not (bit (get_or mask v 0) j)))
           (next : Front) (done' : ℕ) (mask' : List ℕ)
-            (e : held next mask' ≡ tried_word word ranks as₁ as₂ (held front mask)) where
+          (e : held next mask' ≡ tried_word word ranks as₁ as₂ (held front mask)) where
         expanded : held next mask' ≡ expand (room_graph nodes as₁ as₂) (take count ranks) v (held front mask)
         expanded =
             e ∙ own_out ranks as₁ as₂ word (held front mask) h.known (get_or adj v 0) v out
@@ -193,7 +193,7 @@ module _ (nodes count : ℕ) (ranks as₁ as₂ : List ℕ) where
             place k l = omega (arith, length-take-le count ranks ranked.within)
 
         pub rounds_more : length mask' ≡ 64 → ((j : ℕ) → bit done' j ≡ (bit done j || eqb v j))
-          → Rounds (rounds - 1) next done' mask'
+            → Rounds (rounds - 1) next done' mask'
         rounds_more places with =
             record {
               few =
@@ -211,7 +211,7 @@ module _ (nodes count : ℕ) (ranks as₁ as₂ : List ℕ) where
               rest =
                   rw (expanded, added (bit done) (bit done') v with)
                   (sym (round_more (room_graph nodes as₁ as₂) (take count ranks) rounds (bit done) (held front mask) v l
-                    node_below node_first)
+                  node_below node_first)
                   ∙ h.rest);
             }
 

@@ -33,7 +33,7 @@ loop-k-preserved c =
       elim c.if-price-least.branch [
         | then-price-least w ↦ rw (w.falling-is, w.least-is)
             (passed_lower _ _ l.k l.falling l.least p.result l.invariant.1 p.ensures (omega arith) w.with-falling.result
-              w.with-falling.ensures w.if-price-least.true)
+            w.with-falling.ensures w.if-price-least.true)
         | else-price-least w ↦ rw (w.falling-is, w.least-is)
             (passed_higher _ _ l.k l.falling l.least p.result l.invariant.1 p.ensures (omega arith) w.if-price-least.false)
       ],

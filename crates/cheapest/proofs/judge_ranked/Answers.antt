@@ -62,7 +62,7 @@ loop-e-preserved c =
             ∙ sym w.spare_holds.ensures ∙ w.if-not-spare_holds.false
         | else-is_spare w ↦
             link_other a.ranks.now a.end1.now a.end2.now a.cost.now a.mark.now a.mask.now l.e c.is_spare.ensures
-              w.if-is_spare.false
+            w.if-is_spare.false
       ]),
     )
 

@@ -30,7 +30,7 @@ loop-left-init c =
     let x = c.crossing-word in (
       lead_tells c.args.ranks.now c.args.cost.now x.result c.args.falling c.leaders-left.result
           (limit (goal.at.loop-left-init c).Start) (λ j k l w. c.requires.falls j k l (sym (x.ensures k) ∙ w))
-            c.leaders-left.ensures _ x.ensures,
+          c.leaders-left.ensures _ x.ensures,
       omega arith,
       λ k h. c.requires.edge k (sym (x.ensures k) ∙ and_first (bit x.result k) _ (sym (c.leaders-left.ensures k) ∙ h)),
     )
@@ -54,14 +54,14 @@ returns-then-limit-cost_at c =
     let l = c.loop-left in
     sym (word_miss l.left (omega arith) l.invariant.1 k.result k.ensures (afforded (goal.at.returns-then-limit-cost_at c).Start)
     (ap (λ x. leb x (limit (goal.at.returns-then-limit-cost_at c).Start)) (sym c.cost_at.ensures)
-      ∙ lt-leb _ _ c.if-limit-cost_at.true))
+    ∙ lt-leb _ _ c.if-limit-cost_at.true))
     ∙ l.invariant.0
 
 pub loop-left-smaller : goal.loop-left-smaller
 loop-left-smaller c =
     let l = c.loop-left in
     word_less l.left (omega arith) l.invariant.1 c.lowest-k.result c.lowest-k.ensures c.without_lowest-left.result
-      c.without_lowest-left.ensures
+    c.without_lowest-left.ensures
 
 pub loop-left-preserved : goal.loop-left-preserved
 loop-left-preserved c =
@@ -71,7 +71,7 @@ loop-left-preserved c =
     let some : 0 < l.left = omega arith in (
       word_turn l.left some l.invariant.1 k.result k.ensures r.result r.ensures (afforded (goal.at.loop-left-preserved c).Start)
           (ap (λ x. leb x (limit (goal.at.loop-left-preserved c).Start)) (sym c.cost_at.ensures)
-            ∙ le-leb _ _ c.if-limit-cost_at.false)
+          ∙ le-leb _ _ c.if-limit-cost_at.false)
           ∙ l.invariant.0,
       omega arith,
       λ j h. l.invariant.2 j (word_part l.left some l.invariant.1 k.result k.ensures r.result r.ensures j h),

@@ -16,7 +16,7 @@ use Rattle.cheapest.proofs.spare_holds.Given as goal
 abbrev pub invariant-loop-left : goal.invariant-loop-left
 invariant-loop-left l =
     (word_holds (λ k. leb (cost_at l.cost l.ranks k) l.limit) l.left
-      ≡ all_below 64 (λ k. not (across l.mask l.a l.b k) || leb (cost_at l.cost l.ranks k) l.limit)) ×
+    ≡ all_below 64 (λ k. not (across l.mask l.a l.b k) || leb (cost_at l.cost l.ranks k) l.limit)) ×
     (l.left < 2 ^ 64) ×
     ((k : ℕ) → bit l.left k ≡ true → get_or l.ranks k 0 < 256)
 

@@ -64,8 +64,14 @@ pub grow-next-requires : goal.grow-next-requires
 grow-next-requires c =
     let l = c.loop-untried in
     record {
-      few = omega (arith, l.invariant.1.few, c.requires.found_bound.0, c.lowest-k.ensures, rank_below
-        (goal.at.grow-next-requires c).After-lowest-k);
+      few = omega (
+        arith,
+        l.invariant.1.few,
+        c.requires.found_bound.0,
+        c.lowest-k.ensures,
+        rank_below
+            (goal.at.grow-next-requires c).After-lowest-k,
+      );
       first = c.requires.named.first c.lowest-k.result (rank_named (goal.at.grow-next-requires c).After-lowest-k);
       second = c.requires.named.second c.lowest-k.result (rank_named (goal.at.grow-next-requires c).After-lowest-k);
       rank = rank_below (goal.at.grow-next-requires c).After-lowest-k;
@@ -76,7 +82,7 @@ pub loop-untried-smaller : goal.loop-untried-smaller
 loop-untried-smaller c =
     let l = c.loop-untried in
     word_less l.untried (omega arith) l.invariant.1.fits c.lowest-k.result c.lowest-k.ensures
-      c.without_lowest-untried.result c.without_lowest-untried.ensures
+    c.without_lowest-untried.result c.without_lowest-untried.ensures
 
 pub loop-untried-preserved : goal.loop-untried-preserved
 loop-untried-preserved c =
@@ -85,7 +91,7 @@ loop-untried-preserved c =
       c.grow-next.ensures.places,
       trying_turn a.word a.ranks.now a.end1.now a.end2.now _ l.untried (held l.next l.mask) l.invariant.1 (omega arith)
           c.lowest-k.result c.lowest-k.ensures c.without_lowest-untried.result _ (omega arith)
-            c.without_lowest-untried.ensures c.grow-next.ensures.state,
+          c.without_lowest-untried.ensures c.grow-next.ensures.state,
     )
 
 pub returns : goal.returns

@@ -9,7 +9,7 @@ pub returns-then-count-nodes : goal.returns-then-count-nodes
 returns-then-count-nodes c =
     let a = c.args in record {
       answer = λ edges mark. sym (tree_missed a.nodes a.count a.ranks.now a.end1.now a.end2.now c.requires.places.1 edges
-        mark c.if-count-nodes.true);
+          mark c.if-count-nodes.true);
       walked = λ h. clash h refl;
     }
 
@@ -23,6 +23,6 @@ returns c =
     let w = c.root_paths-found in record {
       answer = λ edges mark.
           tree_found a.nodes a.count a.ranks.now a.end1.now a.end2.now c.requires.places.1 edges mark w.result _
-            c.if-count-nodes.false w.ensures;
+          c.if-count-nodes.false w.ensures;
       walked = λ h. rw (eqb-true w.result a.nodes h) at w.ensures;
     }

@@ -57,7 +57,7 @@ expand-front-requires c =
     let l = c.loop-rounds in
     record {
       named = word_named c.args.count c.args.ranks.now c.args.end1.now c.args.end2.now _ c.requires.few c.requires.within
-        l.invariant.0
+          l.invariant.0
           c.args.nodes c.requires c.lowest.result c.less-word.result (λ k b. and_first _ _ (sym (c.less-word.ensures k) ∙ b));
       found_bound = (omega (arith, l.invariant.1.few, c.requires.small), l.invariant.1.places);
     }
@@ -73,9 +73,9 @@ loop-rounds-preserved c =
       l.invariant.0,
       rounds_more a.nodes a.count a.ranks.now a.end1.now a.end2.now l.rounds l.front l.done l.mask l.invariant.1
           c.loop-rounds-test.true c.less-waiting.result c.less-waiting.ensures (omega arith) (omega arith)
-            c.lowest.result c.lowest.ensures
+          c.lowest.result c.lowest.ensures
           c.requires _ l.invariant.0 c.less-word.result c.less-word.ensures c.expand-front.result c.with-done.result _
-            c.expand-front.ensures.state
+          c.expand-front.ensures.state
           c.expand-front.ensures.places c.with-done.ensures,
     )
 
@@ -84,4 +84,4 @@ returns c =
     let l = c.loop-rounds in
     let a = c.args in
     rounds_end a.nodes a.count a.ranks.now a.end1.now a.end2.now l.rounds l.front l.done l.mask l.invariant.1
-      c.loop-rounds-test.false
+    c.loop-rounds-test.false
