@@ -1,2 +1,3 @@
 -- Laws of the text of an answer.
+pub mod DigitLaws
 pub mod TextLaws

@@ -24,24 +24,24 @@ decimal_most (suc k) n =
     ]
 
 -- The digits that the library makes of a number are those of the definition.
-pub digits_decimal : (most n : ℕ) → n < 10 ^ suc most → n < 2 ^ 64 → digits n ≡ decimal_in (suc most) n
+pub made_decimal : (most n : ℕ) → n < 10 ^ suc most → n < 2 ^ 64 → digits n ≡ decimal_in (suc most) n
 unfolding decimal_in
-digits_decimal zero n l f = rw (lt-ltb n 10 l) (decimal_digit n l)
-digits_decimal (suc most) n l f =
+made_decimal zero n l f = rw (lt-ltb n 10 l) (decimal_digit n l)
+made_decimal (suc most) n l f =
     elim (dec_lt n 10) [
       | yes small ↦ rw (lt-ltb n 10 small) (decimal_digit n small)
       | no large ↦
           let tenth : digits (n / 10) ≡ decimal_in (suc most) (n / 10)
-          = digits_decimal most (n / 10) (omega (arith, l, pow-suc 10 (suc most))) (omega arith) in
+          = made_decimal most (n / 10) (omega (arith, l, pow-suc 10 (suc most))) (omega arith) in
           rw (le-ltb n 10 (omega arith)) (decimal_step n (omega arith) f ∙ ap (λ (ds : List ℕ). ds ++ ((48 + n % 10) ∷ [])) tenth)
     ]
 
 -- Bytes copied to a part of a buffer are stores from where the part begins.
-pub part_copied :
+pub range_copied :
     (out part : List ℕ) (at : ℕ) →
     at + length part ≤ length out →
     put_mid at (at + length part - at) out part ≡ sets out at part
-part_copied out part at l =
+range_copied out part at l =
     let size : at + length part - at ≡ length part = omega arith in
     rw (size, sets-eq part out at l, drop-drop (length part) at out) (sym (append_assoc (take at out) part (drop (at + length part) out)))
 
