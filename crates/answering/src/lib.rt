@@ -1,4 +1,6 @@
 // Answers a job: the new costs with the fewest steps, and the pairing that proves it, into an area.
+#![tactic(auto)]
+
 ghost use Rattle.std.specs.Prelude.{◌≢◌, List, ℕ};
 ghost use Rattle.frame.specs.Arrays.{arrays};
 ghost use Rattle.accept.specs.Accepting.{Asked, SomeHeld};

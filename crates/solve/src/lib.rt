@@ -1,4 +1,6 @@
 // Finds the best costs of an accepted job that is held in arrays: the matching, the lowest new costs, the pairs.
+#![tactic(auto)]
+
 ghost use Rattle.std.specs.Prelude.{◌≡◌, ◌≤◌, length};
 ghost use Rattle.optimum.specs.Search.{Problem};
 ghost use Rattle.frame.specs.Job.{Job};

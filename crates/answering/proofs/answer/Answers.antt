@@ -1,0 +1,14 @@
+-- `answering::answer` meets its contract: the frame is asked the six questions, and its job answered. Assumes nothing.
+use Rattle.answering.proofs.answer.Goals as goal
+
+pub answer_held-requires : goal.answer_held-requires
+answer_held-requires c = λ z. (_, c.accept-header.ensures.job z)
+
+pub returns : goal.returns
+returns c =
+    c.answer_held.ensures.answered _
+    (record {
+      bytes = λ i. (c.type_inv.frame i).fits;
+      header_is = c.accept-header.ensures.header;
+      held = c.accept-header.ensures.job;
+    })
