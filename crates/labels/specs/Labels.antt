@@ -50,7 +50,8 @@ pub record HoldsSpare (p : Problem) (q : Slots) (s : ℕ) (cost ss cols slot : L
   pub own : get_or cols s 0 ≡ 0 → (spare_slot q s ≡ get_or slot s 0) × (spare_slot q s < q.slots)
 
 -- Spare rank s as an origin.
-pub record SpareLabelled (s live : ℕ) (cost ss cols slot words links label words' links' label' : List ℕ) (live' : ℕ) : Type 0 where
+pub record SpareLabelled (s live : ℕ) (cost ss cols slot words links label words' links' label' : List ℕ) (live' : ℕ) :
+    Type 0 where
   pub kept : Kept words links words' links'
   pub size : length label' ≡ 64
   pub equal :
@@ -63,12 +64,14 @@ Before p least t = (x : ℕ) → least ≤ x → (ltb t p.trees && leb x (p.tree
 
 -- The spare ranks from `left'` to `left` as origins, for any tree rank that they come before: the model, run on what is left, gives
 -- what it gives at the start.
-pub record SparesLabelled (left live least : ℕ) (cost ss cols slot words links label words' links' label' : List ℕ) (left' live' : ℕ) : Type 0 where
+pub record SparesLabelled (left live least : ℕ) (cost ss cols slot words links label words' links' label' : List ℕ)
+    (left' live' : ℕ) : Type 0 where
   pub kept : Kept words links words' links'
   pub size : length label' ≡ 64
   pub fewer : left' ≤ left
   pub equal :
-      (p : Problem) (q : Slots) → Fits p q words links → ((s : ℕ) → s < left → HoldsSpare p q s cost ss cols slot) → AreSlots q live
+      (p : Problem) (q : Slots) → Fits p q words links → ((s : ℕ) → s < left → HoldsSpare p q s cost ss cols slot)
+      → AreSlots q live
       → AreSlots q live' × ((n t : ℕ) → Before p least t
       → label_from p q (n + left') t left' (marks_of live' label') ≡ label_from p q (n + left) t left (marks_of live label))
 

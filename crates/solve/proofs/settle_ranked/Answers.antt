@@ -39,5 +39,5 @@ returns-clause-few c =
 pub returns-clause-settled : goal.returns-clause-settled
 returns-clause-settled c =
     λ p w.
-    settled c.requires.problem.1 c.build-found.ensures c.label.ensures c.place.new.mate c.place.ensures.mate c.place.new.costs
+    settled w c.build-found.ensures c.label.ensures c.place.new.mate c.place.ensures.mate c.place.new.costs
     c.place.ensures.costs c.list_pairs-count.result c.list_pairs-count.new.pairs c.list_pairs-count.ensures

@@ -31,9 +31,6 @@ columns-requires c =
       places = refl;
     }
 
-pub overflow_cast-result : goal.overflow_cast-result
-overflow_cast-result c = omega (arith, (low_rank c.low_ranks-spares.ensures (few_links c.requires.job.1)).most)
-
 pub settle_ranked-requires : goal.settle_ranked-requires
 settle_ranked-requires c =
     let h = c.requires.job.1 in record {
