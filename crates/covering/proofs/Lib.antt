@@ -1,0 +1,2 @@
+-- Laws of the columns.
+pub mod ColumnLaws
