@@ -6,7 +6,7 @@ use mathlib.Core.Path.{refl}
 use mathlib.Core.List.{List}
 use Rattle.frame.specs.Arrays.{Arrays, arrays}
 use Rattle.covering.specs.Covers.{LowRanked}
-use Rattle.covering.specs.LowLaws.{low_rank, low_rise, low_ends}
+use Rattle.covering.proofs.LowLaws.{low_rank, low_rise, low_ends}
 use Rattle.held.specs.Held.{Held}
 use Rattle.held.specs.HeldLaws.{some_node, few_nodes, few_links}
 use Rattle.solve.specs.SolveLaws.{crossed, small_cost, solvable, answer_is, none_is}
