@@ -1,4 +1,2 @@
--- What it is to cover and to undercut, the ranks of the spares that undercut, their columns, and the laws of these.
+-- What it is to cover and to undercut, the ranks of the spares that undercut, and their columns.
 pub mod Covers
-pub mod LowLaws
-pub mod ColumnLaws

@@ -31,7 +31,7 @@ use Rattle.paths.specs.RootLaws.{path_below}
 use Rattle.bits.specs.Bit.{bit}
 use Rattle.ranks.proofs.KeysLaws.{members_same}
 use Rattle.covering.specs.Covers.{covers, is_low, low_list, Crossed, LowRanked, ColumnsHold}
-use Rattle.covering.specs.LowLaws.{low_rank, low_column}
+use Rattle.covering.proofs.LowLaws.{low_rank, low_column}
 use Rattle.matching.specs.Tables.{Holds}
 use Rattle.solution.specs.PlaceLaws.{new_costs_same, partners_same}
 use Rattle.held.specs.Held.{Held}

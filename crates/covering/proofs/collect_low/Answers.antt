@@ -1,7 +1,7 @@
 use Prim.Native.Nat.{◌<◌}
 use mathlib.Core.Path.{◌≡◌, sym}
 use native.Mathlib.Omega.{arith}
-use Rattle.covering.specs.LowLaws.{low_start, low_with, low_dear, low_other}
+use Rattle.covering.proofs.LowLaws.{low_start, low_with, low_dear, low_other}
 use Rattle.covering.proofs.collect_low.Goals as goal
 use Rattle.covering.proofs.collect_low.Goals.{In-loop-e, then-is_spare+then-undercuts, then-is_spare+else-undercuts, else-is_spare}
 

@@ -1,7 +1,7 @@
 -- `covering::collect_low` meets its contract. The loop's invariant: the keys of the edges passed are written, and the marks of
 -- the others are still there. The measure is what is left of the edges. Assumes nothing.
 use Prim.Native.Nat.{◌-◌, ◌≤◌}
-use Rattle.covering.specs.LowLaws.{LowCollected}
+use Rattle.covering.proofs.LowLaws.{LowCollected}
 use Rattle.covering.proofs.collect_low.Given as goal
 
 abbrev pub invariant-loop-e : goal.invariant-loop-e

@@ -1,7 +1,7 @@
 use Prim.Native.Nat.{◌<◌}
 use native.Mathlib.Omega.{arith}
 use lib.ListN.{get_or, length-set}
-use Rattle.covering.specs.ColumnLaws.{limit_all, limit_cuts, columns_turn}
+use Rattle.covering.proofs.ColumnLaws.{limit_all, limit_cuts, columns_turn}
 use Rattle.covering.proofs.columns.Goals as goal
 use Rattle.covering.proofs.columns.Goals.{In-loop-s}
 

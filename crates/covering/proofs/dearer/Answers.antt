@@ -2,7 +2,7 @@ use Prim.Native.Nat.{◌-◌, ◌<◌}
 use native.Mathlib.Decide.{ℕ_discrete}
 use native.Mathlib.Omega.{arith}
 use lib.ListN.{get_or}
-use Rattle.covering.specs.ColumnLaws.{limit_is}
+use Rattle.covering.proofs.ColumnLaws.{limit_is}
 use Rattle.covering.proofs.dearer.Goals as goal
 use Rattle.covering.proofs.dearer.Goals.{In-loop-p}
 

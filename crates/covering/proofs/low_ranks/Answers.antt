@@ -6,7 +6,7 @@ use lib.ListN.{length}
 use Rattle.graph.specs.Graph.{EdgeSet}
 use Rattle.ranks.proofs.KeysLaws.{keys_rise, count_ranked}
 use Rattle.covering.specs.Covers.{is_low}
-use Rattle.covering.specs.LowLaws.{low_bound}
+use Rattle.covering.proofs.LowLaws.{low_bound}
 use Rattle.covering.proofs.low_ranks.Goals as goal
 use Rattle.covering.proofs.low_ranks.Goals.{After-collect_low-n}
 

@@ -3,7 +3,7 @@ use Prim.Native.Nat.{◌<◌}
 use native.Mathlib.Omega.{arith}
 use lib.ListN.{get_or}
 use Rattle.paths.specs.WordLaws.{lowest_below}
-use Rattle.covering.specs.LowLaws.{none_dearer, none_covered, lowest_edge, lowest_tells}
+use Rattle.covering.proofs.LowLaws.{none_dearer, none_covered, lowest_edge, lowest_tells}
 use Rattle.covering.proofs.undercuts.Goals as goal
 use Rattle.covering.proofs.undercuts.Goals.{After-covered-over, After-lowest, Start}
 

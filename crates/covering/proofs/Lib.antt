@@ -1,0 +1,3 @@
+-- Laws of the ranks of the spares that undercut, and of their columns.
+pub mod ColumnLaws
+pub mod LowLaws
