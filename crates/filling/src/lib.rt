@@ -1,4 +1,6 @@
 // Links and lists of numbers from the library's arrays into the first places of an array of any length.
+#![tactic(auto)]
+
 ghost use Rattle.std.specs.Prelude.{◌≡◌, ◌*◌, ◌≤◌, length, take};
 ghost use Rattle.std.proofs.lemmas.List.Edits.{sets};
 ghost use Rattle.codec.specs.Numbers.{numbers_at};

@@ -1,4 +1,6 @@
 // Reads a job frame into link records, the type that hosts lend, and an answer frame into arrays.
+#![tactic(auto)]
+
 ghost use Rattle.std.specs.Prelude.{◌≡◌, ◌≤◌, length};
 ghost use Rattle.std.proofs.Math.Option.{some};
 ghost use Rattle.optimum.specs.Optimum.{Answer};
@@ -139,9 +141,10 @@ pub fn read_answer(frame: &[u8], offered: &[u8]) -> AnswerRead
     let header = accept(
         frame, &mut end1, &mut end2, &mut cost, &mut mark, &mut ts, &mut mask, true,
     );
+    let edges = header.edges;
     let verdict = judge_answer_held(header, &end1, &end2, &cost, &mark, &ts, &mask, offered);
     let Verdict::Yes = verdict else {
         return not_read(verdict);
     };
-    read_contents(offered, header.edges as usize)
+    read_contents(offered, edges as usize)
 }
