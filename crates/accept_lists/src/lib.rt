@@ -1,4 +1,6 @@
 // Questions 1 to 6, put to a list of links; an accepted list's job is then held in arrays, with its tree ranks and paths.
+#![tactic(auto)]
+
 ghost use Rattle.std.specs.Prelude.{◌≡◌, length};
 ghost use Rattle.frame.specs.Questions.{list_refusal};
 ghost use Rattle.frame.specs.Arrays.{columns, arrays, job_at};
