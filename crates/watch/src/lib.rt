@@ -1,5 +1,7 @@
 // Packets heard until the marked tree is cheapest, over a job in arrays: the number of violations is kept, and corrected by each
 // packet.
+#![tactic(auto)]
+
 ghost use Rattle.std.specs.Prelude.{◌≡◌, ℕ, length};
 ghost use Rattle.sheet.specs.Reading.{costs_at};
 ghost use Rattle.replay.specs.Log.{heard};
