@@ -2,7 +2,7 @@
 -- the job's answer. Assumes nothing.
 use native.Mathlib.Omega.{arith}
 use mathlib.Core.Path.{refl}
-use Rattle.covering.specs.LowLaws.{low_rank, low_rise, low_ends}
+use Rattle.covering.proofs.LowLaws.{low_rank, low_rise, low_ends}
 use Rattle.held.specs.HeldLaws.{some_node, few_nodes, few_links}
 use Rattle.solve.specs.SolveLaws.{crossed, small_cost, solvable, answer_is, none_is}
 use Rattle.solve.proofs.solve.Goals as goal
