@@ -1,5 +1,7 @@
 // Replays a packet log over the costs of a job frame: the final costs into an area, and after how many packets the marked tree was
 // first cheapest.
+#![tactic(auto)]
+
 ghost use Rattle.std.specs.Prelude.{◌≡◌, List, ℕ};
 ghost use Rattle.frame.specs.Arrays.{arrays};
 ghost use Rattle.accept.specs.Accepting.{Asked, SomeHeld};

@@ -1,4 +1,6 @@
 // Step sheets for a job frame: the sheet of new costs, and the costs that a sheet leads to, into an area.
+#![tactic(auto)]
+
 ghost use Rattle.std.specs.Prelude.{List, ℕ};
 ghost use Rattle.stepping.specs.Stepping.{SheetMade, SheetApplied, AskedCosts, SomeCosts};
 
