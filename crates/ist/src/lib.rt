@@ -1,5 +1,7 @@
 // The library's functions for C (include/ist.h). Those on frames are handed on to the crates `ist_frames`, `ist_sheets`,
 // `ist_replays`, `ist_finders` and `ist_readers`; those over a lent list of records are in list.rt.
+#![tactic(auto)]
+
 ghost use Rattle.answering.specs.Answering.{Answered};
 ghost use Rattle.stepping.specs.Stepping.{SheetMade, SheetApplied};
 ghost use Rattle.replaying.specs.Replayed.{LogReplayed};

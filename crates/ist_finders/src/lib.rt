@@ -1,5 +1,7 @@
 // The finders for C: each calls one service and carries its promise, with the place as an offset and a length. Crate `ist`
 // exports them.
+#![tactic(auto)]
+
 ghost use Rattle.finding.specs.Parts.{LinkLocated, CostLocated};
 
 use ids::Edge;

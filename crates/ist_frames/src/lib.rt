@@ -1,5 +1,7 @@
 // The functions for C that answer and judge frames: each calls one service and carries its promise, with the reply or verdict in
 // plain numbers. Crate `ist` exports them.
+#![tactic(auto)]
+
 ghost use Rattle.answering.specs.Answering.{Answered};
 ghost use Rattle.judging.specs.Verdicts.{TreeJudged, AnswerJudged};
 ghost use Rattle.codes.specs.Exports.{Said, Replied};

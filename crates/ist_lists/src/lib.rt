@@ -1,5 +1,7 @@
 // The functions for C that judge a list of links or find a cost, by the copy that crate `ist` takes of a lent list: each calls
 // one service and carries its promise, with the verdict in plain numbers.
+#![tactic(auto)]
+
 ghost use Rattle.judging.specs.Verdicts.{TreeJudged, AnswerJudged};
 ghost use Rattle.accept.specs.ListJobs.{list_job};
 ghost use Rattle.listed.specs.ListServices.{ListJudged, ListCostLocated};

@@ -1,5 +1,7 @@
 // The readers for C, into arrays of the caller: each calls one service and carries its promise, with the reply or verdict in plain
 // numbers. Crate `ist` exports them.
+#![tactic(auto)]
+
 ghost use Rattle.copying.specs.Copies.{JobCopied, AnswerCopied};
 ghost use Rattle.codes.specs.Exports.{JobTold, AnswerTold};
 

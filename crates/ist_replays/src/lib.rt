@@ -1,5 +1,7 @@
 // The function for C on packet logs: it calls the service and carries its promise, with the reply in plain numbers. Crate `ist` exports
 // it.
+#![tactic(auto)]
+
 ghost use Rattle.std.specs.Prelude.{◌≡◌};
 ghost use Rattle.replaying.specs.Replayed.{LogReplayed};
 ghost use Rattle.ist_replays.specs.ReplayTold.{first_code, ReplayTold};

@@ -1,5 +1,7 @@
 // The functions for C on step sheets: each calls one service and carries its promise, with the reply in plain numbers. Crate `ist`
 // exports them.
+#![tactic(auto)]
+
 ghost use Rattle.stepping.specs.Stepping.{SheetMade, SheetApplied};
 ghost use Rattle.codes.specs.Exports.{Replied};
 

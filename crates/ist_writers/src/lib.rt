@@ -1,5 +1,7 @@
 // The functions for C on a list of links that write into an area, by the copy that crate `ist` takes of a lent list: each calls
 // one service and carries its promise, with the reply in plain numbers.
+#![tactic(auto)]
+
 ghost use Rattle.accept.specs.ListJobs.{list_job};
 ghost use Rattle.listed.specs.ListServices.{ListWritten, ListAnswered};
 ghost use Rattle.codes.specs.Exports.{Of, Replied};
