@@ -4,26 +4,15 @@ use Rattle.frame.specs.Answers.{judge_tree}
 use Rattle.judging.specs.Verdicts.{Cheapest}
 use Rattle.listed.proofs.LentLaws.{lent_as, lent_judged}
 use Rattle.codes.specs.ExportLaws.{judged_sayable, code_told, list_sayable}
-use borrow.Author.Rules.{rules}
-use Rattle.ist_lists.proofs.judge_copy.Statement.{statement}
-use Rattle.ist_lists.proofs.judge_copy.Tie as tie
+use Rattle.ist_lists.proofs.judge_copy.Goals as goal
 
-judge-links-requires : tie.Need-judge-links-requires
-judge-links-requires c κs = search rules
-
-code-requires : tie.Need-code-requires
-code-requires c κs = search rules
-
-returns : tie.Need-returns
+pub returns : goal.returns
 returns c = λ ys copy.
-    let a = c.before.before.args in
+    let a = c.args in
     let judged = lent_judged a.stations ys (λ s. judge_tree (job_of s)) (λ s. Cheapest (job_of s)) _
-    (lent_as a.stations ys _ _ copy c.before.judge_links.ensures) in
+    (lent_as a.stations ys _ _ copy c.judge_links.ensures) in
     record {
-      verdict = c.before.judge_links.result;
+      verdict = c.judge_links.result;
       number = code_told _ _ (list_sayable _ _ _ (λ k. judged_sayable _ _ _ _ k) judged) c.code.ensures;
       judged = judged;
     }
-
-pub judge_copy_spec : {M : Type 1} → statement M
-judge_copy_spec = tie.close (tie.spec judge-links-requires code-requires returns)
