@@ -1,5 +1,7 @@
 // Reads a job frame, or an answer frame to a job, into arrays of the caller, of any length: the links four numbers each, the
 // costs one each, the pairs two each.
+#![tactic(auto)]
+
 ghost use Rattle.std.specs.Prelude.{◌≡◌, ◌*◌};
 ghost use Rattle.copying.specs.Copies.{refused_copy, verdict_copy, JobCopied, AnswerCopied};
 
