@@ -58,6 +58,7 @@ fn hear(
 
 // Hears the packets of a log until the marked tree is cheapest: from the start, after some of them, or not at all. The costs are left
 // as they then are.
+#[tactic(auto, using(crate::specs::WatchLaws::watched_to))]
 pub fn until_cheapest(
     log: &[u8],
     edges: usize,

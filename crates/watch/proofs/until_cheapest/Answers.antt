@@ -2,7 +2,7 @@
 -- violation before each of them, and those that are left are counted. The measure is how many bytes are left. Assumes nothing.
 use Prim.Native.Nat.{◌<◌}
 use native.Mathlib.Omega.{arith}
-use mathlib.Core.Logic.{inl, inr}
+use mathlib.Core.Logic.{inr}
 use mathlib.Core.Path.{sym, ◌∙◌}
 use Rattle.replay.specs.Log.{Packet}
 use Rattle.replay.proofs.Hearing.{heard_none}
@@ -13,11 +13,6 @@ use Rattle.watch.proofs.until_cheapest.Goals as goal
 
 pub loop-at-init : goal.loop-at-init
 loop-at-init c = record { priced = c.requires.ranged_costs; heard = heard_none _ _ _ _; left = c.count_all-left.ensures }
-
-pub returns-then-left-eq0 : goal.returns-then-left-eq0
-returns-then-left-eq0 c =
-    let h = c.loop-at.invariant in
-    watched_to _ h.heard h.left h.priced (inl c.if-left-eq0.true)
 
 pub returns-in_default : goal.returns-in_default
 returns-in_default c =
@@ -66,7 +61,7 @@ loop-at-preserved c =
       priced = priced_more a.edges l.cost costs q h.priced moved c.hear-left.ensures.places within;
       heard =
           watched_more a.edges a.log.now count a.cost.now l.cost costs _ _ _ h.heard h.left q c.in-Step.next moved
-          c.if-left-eq0.false far near (packet_rest _ _ _ _ _ _ packet);
+          (λ none. omega (arith, none)) far near (packet_rest _ _ _ _ _ _ packet);
       left = c.hear-left.ensures.violations;
     }
 
