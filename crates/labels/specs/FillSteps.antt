@@ -26,7 +26,7 @@ module _ (word x : ℕ) (label₀ : List ℕ) (left : ℕ) (label : List ℕ) (h
       record {
         size = h.size;
         at = λ k. subst (λ b. cond b x (get_or label k 0) ≡ cond (bit word k) x (get_or label₀ k 0))
-          (ap (λ w. bit w k) e ∙ bit_zero k) (h.at k);
+            (ap (λ w. bit w k) e ∙ bit_zero k) (h.at k);
       }
 
   module _ (some : left ≡ 0 → ⊥) (i : ℕ) (lowest : i ≡ first 64 (bit left)) where
@@ -43,8 +43,11 @@ module _ (word x : ℕ) (label₀ : List ℕ) (left : ℕ) (label : List ℕ) (h
         record {
           at = λ k. elim (ℕ_discrete k i) [
             | yes e ↦ rw (e, gone, get_or-set_same label i x 0 (omega (arith, h.size, filling_below))) (rw is_member at (h.at i))
-            | no d ↦ rw (ap (λ (f : ℕ → Bool). f k) without ∙ put_other (bit left) i false k d, get_or-set_other label i
-              k x 0 d) (h.at k)
+            | no d ↦ rw (
+              ap (λ (f : ℕ → Bool). f k) without ∙ put_other (bit left) i false k d,
+              get_or-set_other label i
+                  k x 0 d,
+            ) (h.at k)
           ];
           size = length-set label i x ∙ h.size;
           small = l;

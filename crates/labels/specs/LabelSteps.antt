@@ -56,10 +56,10 @@ labelled_from t x live left words links label words' links' after e gone lost la
       size = f.size;
       equal = λ p q fits l low.
           let found : bit after ≡ (search p q never (bit left) t).live =
-            (explored_all p q words links fits t left l low words' links' after e).live in
+          (explored_all p q words links fits t left l low words' links' after e).live in
           let same : (λ k. get_or label' k 0) ≡ (marked x (search p q never (bit left) t) (marks_of live label)).label =
           fun_ext (λ k. f.at k ∙ ap (λ b. cond b x (get_or label k 0))
-            (lost k ∙ ap (λ (S : ℕ → Bool). bit live k && not (S k)) found)) in (
+          (lost k ∙ ap (λ (S : ℕ → Bool). bit live k && not (S k)) found)) in (
             λ k h. low k ((search_closed p q never (bit left) t).falls k (sym (ap (λ (S : ℕ → Bool). S k) found) ∙ h)),
             λ i. record { live = found i; label = same i },
           );
@@ -69,7 +69,7 @@ labelled_from t x live left words links label words' links' after e gone lost la
 module _ (s live : ℕ) (cost ss cols slot words links label : List ℕ) (room : LabelRoom words links label) where
   stays :
       ((p : Problem) (q : Slots) → HoldsSpare p q s cost ss cols slot
-        → (ltb (spare_slot q s) q.slots && bit live (spare_slot q s)) ≡ false)
+      → (ltb (spare_slot q s) q.slots && bit live (spare_slot q s)) ≡ false)
       → SpareLabelled s live cost ss cols slot words links label words links label live
   stays h =
       record {
@@ -90,9 +90,9 @@ module _ (s live : ℕ) (cost ss cols slot words links label : List ℕ) (room :
 
     pub spare_labelled :
         bit live k ≡ true → (x : ℕ) → x ≡ cost_at cost ss s → (live₁ : ℕ)
-          → ((j : ℕ) → bit live₁ j ≡ (bit live j && not (eqb k j)))
+        → ((j : ℕ) → bit live₁ j ≡ (bit live j && not (eqb k j)))
         → (words' links' label' : List ℕ) (live' : ℕ) → LabelledFrom (get_or links k 0) x live live₁ words links label
-          words' links' label' live'
+        words' links' label' live'
         → SpareLabelled s live cost ss cols slot words links label words' links' label' live'
     spare_labelled h x xe live₁ out words' links' label' live' f =
         record {
@@ -102,7 +102,7 @@ module _ (s live : ℕ) (cost ss cols slot words links label : List ℕ) (room :
               let m : Marks = marks_of live label in
               let l : k < q.slots = rw (is.own z).0 at (is.own z).1 in
               let low₁ : AreSlots q live₁ = λ j g. low j
-                (put_less (bit live) k j (sym (ap (λ (S : ℕ → Bool). S j) less) ∙ g)).1 in
+              (put_less (bit live) k j (sym (ap (λ (S : ℕ → Bool). S j) less) ∙ g)).1 in
               let r = f.equal p q fits (rw (fits.own k l) at (fits.below k l)) low₁ in (
                 r.0,
                 r.1
@@ -139,9 +139,9 @@ module _ (left₀ live₀ least : ℕ) (cost ss cols slot words₀ links₀ labe
 
   pub sparing_turn :
       (words links label : List ℕ) (left live : ℕ) → Sparing words links label left live → 0 < left → least
-        ≤ cost_at cost ss (left - 1)
+      ≤ cost_at cost ss (left - 1)
       → (words' links' label' : List ℕ) (live' : ℕ) → SpareLabelled (left - 1) live cost ss cols slot words links label
-        words' links' label' live'
+      words' links' label' live'
       → Sparing words' links' label' (left - 1) live'
   sparing_turn words links label left live h some dear words' links' label' live' f =
       record {
@@ -159,7 +159,7 @@ module _ (left₀ live₀ least : ℕ) (cost ss cols slot words₀ links₀ labe
           (p : Problem) (q : Slots) (n t : ℕ) → (ltb t p.trees && leb (p.spare_cost (left - 1)) (p.tree_cost t)) ≡ false
           → marks_of live' label' ≡ label_slot p q (left - 1) (spare_slot q (left - 1)) (marks_of live label)
           → label_from p q (n + (left - 1)) t (left - 1) (marks_of live' label')
-            ≡ label_from p q (n + left) t left (marks_of live label)
+          ≡ label_from p q (n + left) t left (marks_of live label)
       next p q n t first d =
           let one : left ≡ suc (left - 1) = omega arith in
           let more : n + left ≡ suc (n + (left - 1)) = omega arith in

@@ -71,7 +71,7 @@ pub record SparesLabelled (left live least : ℕ) (cost ss cols slot words links
   pub fewer : left' ≤ left
   pub equal :
       (p : Problem) (q : Slots) → Fits p q words links → ((s : ℕ) → s < left → HoldsSpare p q s cost ss cols slot)
-        → AreSlots q live
+      → AreSlots q live
       → AreSlots q live' × ((n t : ℕ) → Before p least t
       → label_from p q (n + left') t left' (marks_of live' label') ≡ label_from p q (n + left) t left (marks_of live label))
 

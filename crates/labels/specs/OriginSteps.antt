@@ -65,7 +65,7 @@ module _
         found :
             get_or cols s 0 ≡ 0 → (m : ℕ) → mates_in q s ≡ m
             → (first q.slots (λ k. eqb (q.spare_of k) s) ≡ get_or slot s 0)
-              × (first q.slots (λ k. eqb (q.spare_of k) s) < q.slots)
+            × (first q.slots (λ k. eqb (q.spare_of k) s) < q.slots)
         found z zero e = absurd (h.some s l (sym (rw e at column) ∙ z))
         found z (suc t) e =
             let (k, a, is, _) = mates_view q.slots q.spare_of q.tree_of s t e in
@@ -73,7 +73,7 @@ module _
             (at ∙ sym (rw is at (pairs.places k a)), rw at a)
 
     pub reading : trees < 64 → (slots : ℕ) → q.slots ≡ slots → Ranked p
-      → Reading p q trees spares slots cost ts ss cols slot words links
+        → Reading p q trees spares slots cost ts ss cols slot words links
     reading few slots e ranked =
         record {
           trees_are = h.trees_are;
@@ -133,11 +133,14 @@ module _ (trees spares slots : ℕ) (cost ts ss cols slot words₀ links₀ : Li
         next = 0;
         within = omega arith;
         members = λ u h.
-            let both : (ltb u trees && not (paired_below slots links₀ u)) ≡ true = sym (is u) ∙ h in
-            (omega arith, ltb-true u trees (and_first _ _ both), unnot (paired_below slots links₀ u)
-              (and_second (ltb u trees) _ both));
+            let both : (ltb u trees && not (paired_below slots links₀ u)) ≡ true = sym (is u) ∙ h in (
+              omega arith,
+              ltb-true u trees (and_first _ _ both),
+              unnot (paired_below slots links₀ u)
+                  (and_second (ltb u trees) _ both),
+            );
         others = λ u a b h. elim (truth (paired_below slots links₀ u))
-          [ inl e ↦ e | inr e ↦ clash (is u ∙ rw (e, lt-ltb u trees b)) h ];
+            [ inl e ↦ e | inr e ↦ clash (is u ∙ rw (e, lt-ltb u trees b)) h ];
         equal = λ p q r. (
           λ k h. rw r.slots_are (ltb-true k slots (sym (lives k) ∙ h)),
           let turns : (trees - 0) + spares ≡ p.trees + p.spares = omega (arith, r.trees_are, r.spares_are) in
@@ -159,8 +162,10 @@ module _ (trees spares slots : ℕ) (cost ts ss cols slot words₀ links₀ : Li
   -- A rank is in a pair of the arrays if it is in one of the model's.
   paired_same : (p : Problem) (q : Slots) → Read p q → (u : ℕ) → ltb (tree_slot q u) q.slots ≡ paired_below slots links₀ u
   paired_same p q r u =
-      rw (first_same q.slots (λ k. eqb (q.tree_of k) u) (λ k. eqb (get_or links₀ k 0) u) (λ k l. rw (r.fits.own k l)),
-        r.slots_are)
+      rw (
+        first_same q.slots (λ k. eqb (q.tree_of k) u) (λ k. eqb (get_or links₀ k 0) u) (λ k l. rw (r.fits.own k l)),
+        r.slots_are,
+      )
 
   module _ (free left live : ℕ) (words links label : List ℕ) (h : Turn free left live words links label) where
     -- The tree ranks before the next one in no pair are passed over.
@@ -188,10 +193,10 @@ module _ (trees spares slots : ℕ) (cost ts ss cols slot words₀ links₀ : Li
           size = h.size;
           labels = λ p q cols₀ spare ranked holds pairs is k.
               let r : Read p q = reading p q trees spares cost ts ss cols₀ cols words₀ links₀ spare slot holds pairs few
-                slots is ranked in
+              slots is ranked in
               ap (λ (m : Marks). m.label k)
               (sym (from_none p q (marks_of live label) (λ j. rw e (bit_zero j)) ((trees - h.next) + left) h.next left)
-                ∙ (h.equal p q r).1);
+              ∙ (h.equal p q r).1);
         }
 
     -- The last spare ranks.
@@ -206,7 +211,7 @@ module _ (trees spares slots : ℕ) (cost ts ss cols slot words₀ links₀ : Li
           size = f.size;
           labels = λ p q cols₀ spare ranked holds pairs is k.
               let r : Read p q = reading p q trees spares cost ts ss cols₀ cols words₀ links₀ spare slot holds pairs few
-                slots is ranked in
+              slots is ranked in
               ap (λ (m : Marks). m.label k) (whole p q r);
         }
       where
@@ -240,7 +245,7 @@ module _ (trees spares slots : ℕ) (cost ts ss cols slot words₀ links₀ : Li
           → SparesLabelled left live (x + 1) cost ss cols slot words links label words₁ links₁ label₁ left₁ live₁
           → (0 < left₁ → cost_at cost ss (left₁ - 1) < x + 1)
           → (words₂ links₂ label₂ : List ℕ) (live₂ : ℕ) → LabelledFrom t x live₁ live₁ words₁ links₁ label₁ words₂ links₂
-            label₂ live₂
+          label₂ live₂
           → (free' : ℕ) → ((u : ℕ) → bit free' u ≡ (bit free u && not (eqb u (first 64 (bit free))))) → free' < 2 ^ 64
           → Turn free' left₁ live₂ words₂ links₂ label₂
       labelling_turn x xe words₁ links₁ label₁ left₁ live₁ f cheaper words₂ links₂ label₂ live₂ g free' less small =
@@ -253,9 +258,11 @@ module _ (trees spares slots : ℕ) (cost ts ss cols slot words₀ links₀ : Li
             within = next_rank_below;
             members = λ u m.
                 let old : (bit free u && not (eqb u t)) ≡ true = sym (off u) ∙ m in
-                let is : bit free u ≡ true = and_first _ _ old in
-                (later u is (λ e. clash (and_second (bit free u) _ old) (rw (eq-eqb u t e))), (h.members u is).1,
-                  (h.members u is).2);
+                let is : bit free u ≡ true = and_first _ _ old in (
+                  later u is (λ e. clash (and_second (bit free u) _ old) (rw (eq-eqb u t e))),
+                  (h.members u is).1,
+                  (h.members u is).2,
+                );
             others = λ u a b m. h.others u (omega (arith, (h.members t hit).0)) b (gone u (omega arith) m);
             equal = λ p q r. turned p q r;
           }
@@ -278,7 +285,7 @@ module _ (trees spares slots : ℕ) (cost ts ss cols slot words₀ links₀ : Li
           turned :
               (p : Problem) (q : Slots) → Read p q
               → AreSlots q live₂ × (label_from p q ((trees - suc t) + left₁) (suc t) left₁ (marks_of live₂ label₂)
-                ≡ slot_marks p q)
+              ≡ slot_marks p q)
           turned p q r =
               let l : t < p.trees = rw r.trees_are next_rank_below in
               let costs : p.tree_cost t ≡ x = r.tree_cost_lem t next_rank_below ∙ sym xe in
@@ -288,7 +295,7 @@ module _ (trees spares slots : ℕ) (cost ts ss cols slot words₀ links₀ : Li
               let (c, d) = g.equal p q (fits_kept words₀ links₀ words₁ links₁ kept₁ p q r.fits) l a in
               let origin : label_tree p q t m ≡ marked x (search p q never (bit live₁) t) m =
               tree_free p q t m (paired_same p q r t ∙ (h.members t hit).2)
-                ∙ ap (λ (y : ℕ). marked y (search p q never (bit live₁) t) m) costs in
+              ∙ ap (λ (y : ℕ). marked y (search p q never (bit live₁) t) m) costs in
               let one : (trees - t) + left₁ ≡ suc ((trees - suc t) + left₁) = omega (arith, next_rank_below) in (
                 c,
                 ap (label_from p q ((trees - suc t) + left₁) (suc t) left₁) (d ∙ sym origin)
@@ -302,7 +309,7 @@ module _ (trees spares slots : ℕ) (cost ts ss cols slot words₀ links₀ : Li
               after p costs y k = rw (lt-leb y (p.tree_cost t) (omega arith)) (and-false (ltb t p.trees))
 
               dear : (p : Problem) (q : Slots) → Read p q → t < p.trees → p.tree_cost t ≡ x → 0 < left₁
-                → tree_next p q t (left₁ - 1) ≡ true
+                  → tree_next p q t (left₁ - 1) ≡ true
               dear p q r l costs k =
                   and_both _ _ (lt-ltb t p.trees l) (le-leb (p.spare_cost (left₁ - 1)) (p.tree_cost t)
                   (omega (arith, cheaper k, (r.held (left₁ - 1) (omega (arith, f.fewer, h.fewer))).costs)))

@@ -51,7 +51,7 @@ module _ (p : Problem) (q : Slots) where
       → (t : ℕ) → t < p.trees → ltb (tree_slot q t) q.slots ≡ true → (s n : ℕ) (l : Marks) → s ≤ n
       → label_from p q (suc n) t s l ≡ label_from p q n (suc t) s l
   pass_one fall t b h zero n l m = from_tree n t 0 l (λ k. absurd (omega arith))
-    ∙ ap (label_from p q n (suc t) 0) (tree_paired t l h)
+      ∙ ap (label_from p q n (suc t) 0) (tree_paired t l h)
   pass_one fall t b h (suc s) zero l m = absurd (omega arith)
   pass_one fall t b h (suc s) (suc n) l m = elim (truth (tree_next t s)) [
     | inl e ↦
@@ -69,13 +69,13 @@ module _ (p : Problem) (q : Slots) where
         | inl f ↦
             let there : suc t < p.trees = ltb-true (suc t) p.trees (and_first _ _ f) in
             let dear : p.tree_cost t < p.spare_cost s = leb-false (p.spare_cost s) (p.tree_cost t)
-              (and_miss (ltb t p.trees) _ e (lt-ltb t p.trees b)) in
+            (and_miss (ltb t p.trees) _ e (lt-ltb t p.trees b)) in
             absurd (omega (arith, fall t (suc t) (omega arith) there, leb-true (p.spare_cost s) (p.tree_cost (suc t)) (second f)))
       ]
         where
           second : tree_next (suc t) s ≡ true → leb (p.spare_cost s) (p.tree_cost (suc t)) ≡ true
           second f = elim (truth (leb (p.spare_cost s) (p.tree_cost (suc t))))
-            [ inl g ↦ g | inr g ↦ clash f (rw g (and-false (ltb (suc t) p.trees))) ]
+              [ inl g ↦ g | inr g ↦ clash f (rw g (and-false (ltb (suc t) p.trees))) ]
 
   -- So are the turns of all up to one in no pair.
   pub pass_all :
@@ -89,7 +89,7 @@ module _ (p : Problem) (q : Slots) where
       pass_all fall t d s l (omega arith) (λ u a c. h u a (omega arith))
       ∙ ap (λ (n : ℕ). label_from p q n (t + d) s l) more
       ∙ pass_one fall (t + d) (omega arith) (h (t + d) (omega arith) (omega arith)) s ((p.trees - (t + suc d)) + s) l
-        (omega arith)
+      (omega arith)
       ∙ ap (λ (u : ℕ). label_from p q ((p.trees - (t + suc d)) + s) u s l) (sym on)
 
   -- The slot of a spare rank, without a label yet, is an origin; a spare rank without one is not.
@@ -108,9 +108,9 @@ module _ (p : Problem) (q : Slots) where
     marked_none : (x : ℕ) (live : ℕ → Bool) (t : ℕ) → ((k : ℕ) → live k ≡ false) → marked x (search p q never live t) l ≡ l
     marked_none x live t dead =
         let gone : (search p q never live t).live ≡ l.live = fun_ext
-          (λ k. unlive live _ k (search_closed p q never live t).falls (dead k) ∙ sym (none k)) in
+        (λ k. unlive live _ k (search_closed p q never live t).falls (dead k) ∙ sym (none k)) in
         let same : (λ k. cond (l.live k && not ((search p q never live t).live k)) x (l.label k))
-          ≡ l.label = fun_ext (λ k. rw (none k)) in
+        ≡ l.label = fun_ext (λ k. rw (none k)) in
         λ i. record { live = gone i; label = same i }
 
     tree_none : (t : ℕ) → label_tree p q t l ≡ l
@@ -126,12 +126,12 @@ module _ (p : Problem) (q : Slots) where
     from_none zero t s = from_end t s l
     from_none (suc turns) t zero =
         from_tree turns t 0 l (λ k. absurd (omega arith)) ∙ ap (label_from p q turns (suc t) 0) (tree_none t)
-          ∙ from_none turns (suc t) 0
+        ∙ from_none turns (suc t) 0
     from_none (suc turns) t (suc s) = elim (truth (tree_next t s)) [
       | inl e ↦
           let one : suc s - 1 ≡ s = omega arith in
           from_tree turns t (suc s) l (λ _. rw one e) ∙ ap (label_from p q turns (suc t) (suc s)) (tree_none t)
-            ∙ from_none turns (suc t) (suc s)
+          ∙ from_none turns (suc t) (suc s)
       | inr e ↦
           from_spare turns t s l e ∙ ap (label_from p q turns t s) (slot_none s (spare_slot q s)) ∙ from_none turns t s
     ]

@@ -1,4 +1,6 @@
 // The labels of the pairs: the lowest costs (specs/Labels.antt; the model is in optimum's specs/Lowest.antt).
+#![tactic(auto)]
+
 ghost use Rattle.std.specs.Prelude.{◌≡◌, ℕ, ◌-◌, ◌<◌, ◌≤◌, get_or, length};
 ghost use Rattle.bits.specs.Bit.{bit};
 ghost use Rattle.graph.specs.Rank.{cost_at};

@@ -1,0 +1,47 @@
+-- `labels::put_label` meets its contract. The invariant: the label, put at what is left, gives the whole. Assumes nothing.
+use native.Mathlib.Omega.{arith}
+use Rattle.bits.specs.BitLaws.{fewer}
+use Rattle.labels.specs.FillSteps.{filling_start, filling_below, filling_turn, filling_end}
+use Rattle.labels.proofs.put_label.Goals as goal
+
+pub loop-left-init : goal.loop-left-init
+loop-left-init c =
+    let a = c.args in
+    filling_start a.set a.x a.label.now c.requires c.ranges.set.fits
+
+pub overflow_cast-label : goal.overflow_cast-label
+overflow_cast-label c =
+    let a = c.args in
+    let l = c.loop-left in
+    omega (arith, filling_below a.set a.x a.label.now l.left l.label l.invariant c.loop-left-test.true c.lowest.result c.lowest.ensures)
+
+pub offset_bounds-label-lowest : goal.offset_bounds-label-lowest
+offset_bounds-label-lowest c =
+    let a = c.args in
+    let l = c.loop-left in
+    omega (arith, filling_below a.set a.x a.label.now l.left l.label l.invariant c.loop-left-test.true c.lowest.result c.lowest.ensures)
+
+pub bounds-label-lowest : goal.bounds-label-lowest
+bounds-label-lowest c =
+    let a = c.args in
+    let l = c.loop-left in
+    omega (arith, filling_below a.set a.x a.label.now l.left l.label l.invariant c.loop-left-test.true c.lowest.result c.lowest.ensures)
+
+pub loop-left-smaller : goal.loop-left-smaller
+loop-left-smaller c =
+    let l = c.loop-left in
+    fewer 64 l.left c.without_lowest-left.result (omega (arith, c.loop-left-test.true)) l.invariant.small (omega (arith, c.without_lowest-left.type_inv))
+    c.without_lowest-left.ensures
+
+pub loop-left-preserved : goal.loop-left-preserved
+loop-left-preserved c =
+    let a = c.args in
+    let l = c.loop-left in
+    filling_turn a.set a.x a.label.now l.left l.label l.invariant c.loop-left-test.true c.lowest.result
+    c.lowest.ensures c.without_lowest-left.result c.without_lowest-left.ensures (omega (arith, c.without_lowest-left.type_inv))
+
+pub returns : goal.returns
+returns c =
+    let a = c.args in
+    let l = c.loop-left in
+    filling_end a.set a.x a.label.now l.left l.label l.invariant c.loop-left-test.false
