@@ -27,7 +27,7 @@ module _ (slots : ℕ) (ts ss links spare label : List ℕ) where
   abbrev pub placed_from : ℕ → (ℕ → ℕ) → ℕ → ℕ
   placed_from k f =
       scan (λ k f. put (put f (get_or ts (get_or links k 0) 0) (get_or label k 0)) (get_or ss (get_or spare k 0) 0)
-        (get_or label k 0)) (slots - k) k f
+      (get_or label k 0)) (slots - k) k f
 
   abbrev pub partners_from : ℕ → (ℕ → ℕ) → ℕ → ℕ
   partners_from k f = scan (λ k f. put f (get_or ts (get_or links k 0) 0) (suc (get_or ss (get_or spare k 0) 0))) (slots - k) k f
@@ -36,7 +36,7 @@ module _ (slots : ℕ) (ts ss links spare label : List ℕ) where
   costs_start f = scan_start _ slots f
 
   pub partners_start : (mate : List ℕ) → mate ≡ replicate 256 0 → partners_from 0 (λ e. get_or mate e 0)
-    ≡ partners ts ss (slot_pairs slots links spare)
+      ≡ partners ts ss (slot_pairs slots links spare)
   partners_start mate h = ap (partners_from 0) (ap (λ l e. get_or l e 0) h ∙ zeros_at 256) ∙ scan_start _ slots (λ _. 0)
 
   module _ (k : ℕ) where
@@ -56,21 +56,21 @@ module _ (slots : ℕ) (ts ss links spare label : List ℕ) where
       pub costs_turn :
           (costs : List ℕ) → length costs ≡ 256
           → placed_from k (λ e. get_or costs e 0) ≡ placed_from (k + 1)
-            (λ e. get_or (set (set costs a (get_or label k 0)) b (get_or label k 0)) e 0)
+          (λ e. get_or (set (set costs a (get_or label k 0)) b (get_or label k 0)) e 0)
       costs_turn costs s =
           scan_turn _ slots k (λ e. get_or costs e 0) l
           ∙ ap (placed_from (k + 1)) (sym (set_put (set costs a (get_or label k 0)) b (get_or label k 0)
           (omega (arith, named.spare_edges k l, length-set costs a (get_or label k 0)))
           ∙ ap (λ (f : ℕ → ℕ). put f b (get_or label k 0))
-            (set_put costs a (get_or label k 0) (omega (arith, named.tree_edges_lem k l)))))
+          (set_put costs a (get_or label k 0) (omega (arith, named.tree_edges_lem k l)))))
 
       pub partners_turn :
           (mate : List ℕ) → length mate ≡ 256 → partners_from k (λ e. get_or mate e 0)
-            ≡ partners_from (k + 1) (λ e. get_or (set mate a (b + 1)) e 0)
+          ≡ partners_from (k + 1) (λ e. get_or (set mate a (b + 1)) e 0)
       partners_turn mate s =
           scan_turn _ slots k (λ e. get_or mate e 0) l
           ∙ ap (partners_from (k + 1)) (sym
-            (set_put mate a (b + 1) (omega (arith, named.tree_edges_lem k l)) ∙ ap (put (λ e. get_or mate e 0) a) (add-one b)))
+          (set_put mate a (b + 1) (omega (arith, named.tree_edges_lem k l)) ∙ ap (put (λ e. get_or mate e 0) a) (add-one b)))
 
 -- Only what the slots name counts.
 module _
@@ -82,13 +82,13 @@ module _
   where
     pub new_costs_same :
         (c label label' : ℕ → ℕ) → ((k : ℕ) → k < q.slots → label k ≡ label' k) → new_costs c ts ss q label
-          ≡ new_costs c ts' ss' q' label'
+        ≡ new_costs c ts' ss' q' label'
     new_costs_same c label label' labels =
         scan_same (λ k f. put (put f (get_or ts (q.tree_of k) 0) (label k)) (get_or ss (q.spare_of k) 0) (label k))
         (λ k f. put (put f (get_or ts' (q'.tree_of k) 0) (label' k)) (get_or ss' (q'.spare_of k) 0) (label' k)) q.slots 0 c
         (λ k f _ l. rw (trees k (omega arith), spares k (omega arith), labels k (omega arith)))
         ∙ ap (λ (n : ℕ). scan (λ k f. put (put f (get_or ts' (q'.tree_of k) 0) (label' k)) (get_or ss' (q'.spare_of k) 0)
-          (label' k)) n 0 c) slots
+        (label' k)) n 0 c) slots
 
     pub partners_same : partners ts ss q ≡ partners ts' ss' q'
     partners_same =
@@ -96,4 +96,4 @@ module _
         (λ k f. put f (get_or ts' (q'.tree_of k) 0) (suc (get_or ss' (q'.spare_of k) 0))) q.slots 0 (λ _. 0)
         (λ k f _ l. rw (trees k (omega arith), spares k (omega arith)))
         ∙ ap (λ (n : ℕ). scan (λ k f. put f (get_or ts' (q'.tree_of k) 0) (suc (get_or ss' (q'.spare_of k) 0))) n 0
-          (λ _. 0)) slots
+        (λ _. 0)) slots

@@ -1,4 +1,6 @@
 // From slots back to edges: the new costs and the mates, from the pairs and their labels (specs/Asked.antt).
+#![tactic(auto)]
+
 ghost use Rattle.std.specs.Prelude.{◌≡◌, length, get_or, replicate};
 ghost use Rattle.optimum.specs.Solve.{new_costs, partners};
 ghost use Rattle.solution.specs.Asked.{SlotsNamed, slot_pairs};
