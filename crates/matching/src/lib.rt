@@ -87,7 +87,7 @@ fn augment(
         };
     }
     slots::pair(
-        t,
+        TreeRank(t.0),
         SpareRank(goal),
         Slot(n),
         seen,

@@ -84,7 +84,8 @@ without_lowest-free-requires c =
 pub loop-free-smaller : goal.loop-free-smaller
 loop-free-smaller c =
     let l = c.loop-free in
-    fewer 64 l.free c.without_lowest-free.result (omega (arith, c.loop-free-test.true)) l.invariant.small (omega (arith, c.without_lowest-free.type_inv))
+    fewer 64 l.free c.without_lowest-free.result (omega (arith, c.loop-free-test.true)) l.invariant.small
+    (omega (arith, c.without_lowest-free.type_inv))
     c.without_lowest-free.ensures
 
 pub loop-free-preserved : goal.loop-free-preserved

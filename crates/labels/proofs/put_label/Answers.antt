@@ -13,24 +13,28 @@ pub overflow_cast-label : goal.overflow_cast-label
 overflow_cast-label c =
     let a = c.args in
     let l = c.loop-left in
-    omega (arith, filling_below a.set a.x a.label.now l.left l.label l.invariant c.loop-left-test.true c.lowest.result c.lowest.ensures)
+    let below = filling_below a.set a.x a.label.now l.left l.label l.invariant c.loop-left-test.true c.lowest.result c.lowest.ensures in
+    omega (arith, below)
 
 pub offset_bounds-label-lowest : goal.offset_bounds-label-lowest
 offset_bounds-label-lowest c =
     let a = c.args in
     let l = c.loop-left in
-    omega (arith, filling_below a.set a.x a.label.now l.left l.label l.invariant c.loop-left-test.true c.lowest.result c.lowest.ensures)
+    let below = filling_below a.set a.x a.label.now l.left l.label l.invariant c.loop-left-test.true c.lowest.result c.lowest.ensures in
+    omega (arith, below)
 
 pub bounds-label-lowest : goal.bounds-label-lowest
 bounds-label-lowest c =
     let a = c.args in
     let l = c.loop-left in
-    omega (arith, filling_below a.set a.x a.label.now l.left l.label l.invariant c.loop-left-test.true c.lowest.result c.lowest.ensures)
+    let below = filling_below a.set a.x a.label.now l.left l.label l.invariant c.loop-left-test.true c.lowest.result c.lowest.ensures in
+    omega (arith, below)
 
 pub loop-left-smaller : goal.loop-left-smaller
 loop-left-smaller c =
     let l = c.loop-left in
-    fewer 64 l.left c.without_lowest-left.result (omega (arith, c.loop-left-test.true)) l.invariant.small (omega (arith, c.without_lowest-left.type_inv))
+    fewer 64 l.left c.without_lowest-left.result (omega (arith, c.loop-left-test.true)) l.invariant.small
+    (omega (arith, c.without_lowest-left.type_inv))
     c.without_lowest-left.ensures
 
 pub loop-left-preserved : goal.loop-left-preserved

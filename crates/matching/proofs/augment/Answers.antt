@@ -21,14 +21,22 @@ pub returns-then-high-goal_cost : goal.returns-then-high-goal_cost
 returns-then-high-goal_cost c =
     let a = c.args in
     let small : c.cost_at-high.result < 4294967296 = omega arith in
-    let known = compared {b = tables a.cols.now a.words.now a.links.now a.spare.now a.slot.now} a.at.live c.requires c.below.ensures c.first_over-low.ensures c.cost_at-high.ensures small c.goal_cost.ensures in
+    let b = tables a.cols.now a.words.now a.links.now a.spare.now a.slot.now in
+    let known =
+        compared {b = b} a.at.live c.requires c.below.ensures c.first_over-low.ensures c.cost_at-high.ensures small
+        c.goal_cost.ensures
+    in
     augmented_none known c.if-high-goal_cost.true
 
 pub returns-then-high-least : goal.returns-then-high-least
 returns-then-high-least c =
     let a = c.args in
     let small : c.cost_at-high.result < 4294967296 = omega arith in
-    let known = compared {b = tables a.cols.now a.words.now a.links.now a.spare.now a.slot.now} a.at.live c.requires c.below.ensures c.first_over-low.ensures c.cost_at-high.ensures small c.goal_cost.ensures in
+    let b = tables a.cols.now a.words.now a.links.now a.spare.now a.slot.now in
+    let known =
+        compared {b = b} a.at.live c.requires c.below.ensures c.first_over-low.ensures c.cost_at-high.ensures small
+        c.goal_cost.ensures
+    in
     augmented_off known c.if-high-goal_cost.false c.explore-live.ensures c.goal_over-goal.ensures c.goal_cost-least.ensures
     c.if-high-least.true
 
@@ -36,7 +44,11 @@ pub pair-requires : goal.pair-requires
 pair-requires c =
     let a = c.args in
     let small : c.cost_at-high.result < 4294967296 = omega arith in
-    let known = compared {b = tables a.cols.now a.words.now a.links.now a.spare.now a.slot.now} a.at.live c.requires c.below.ensures c.first_over-low.ensures c.cost_at-high.ensures small c.goal_cost.ensures in
+    let b = tables a.cols.now a.words.now a.links.now a.spare.now a.slot.now in
+    let known =
+        compared {b = b} a.at.live c.requires c.below.ensures c.first_over-low.ensures c.cost_at-high.ensures small
+        c.goal_cost.ensures
+    in
     pair_able known c.if-high-goal_cost.false c.explore-live.ensures c.goal_over-goal.ensures c.goal_cost-least.ensures
     c.if-high-least.false
 
@@ -44,6 +56,10 @@ pub returns : goal.returns
 returns c =
     let a = c.args in
     let small : c.cost_at-high.result < 4294967296 = omega arith in
-    let known = compared {b = tables a.cols.now a.words.now a.links.now a.spare.now a.slot.now} a.at.live c.requires c.below.ensures c.first_over-low.ensures c.cost_at-high.ensures small c.goal_cost.ensures in
+    let b = tables a.cols.now a.words.now a.links.now a.spare.now a.slot.now in
+    let known =
+        compared {b = b} a.at.live c.requires c.below.ensures c.first_over-low.ensures c.cost_at-high.ensures small
+        c.goal_cost.ensures
+    in
     augmented_on known c.if-high-goal_cost.false c.explore-live.ensures c.goal_over-goal.ensures c.goal_cost-least.ensures
     c.if-high-least.false c.pair.ensures c.with.result c.with.ensures

@@ -5,7 +5,9 @@ use Rattle.matching.specs.BuildSteps.{Building}
 use Rattle.matching.proofs.build.Given as goal
 
 abbrev pub invariant-loop-t : goal.invariant-loop-t
-invariant-loop-t l = Building l.t l.trees l.spares l.cost l.ts l.ss l.initial.cols l.at.slots l.at.low l.at.live l.at.weight (tables l.cols l.words l.links l.spare l.slot)
+invariant-loop-t l =
+    Building l.t l.trees l.spares l.cost l.ts l.ss l.initial.cols l.at.slots l.at.low l.at.live l.at.weight
+    (tables l.cols l.words l.links l.spare l.slot)
 
 abbrev pub decreases-loop-t : goal.decreases-loop-t
 decreases-loop-t l = l.trees - l.t

@@ -7,8 +7,9 @@ use Rattle.slots.proofs.pair.Goals as goal
 
 pub turn-requires : goal.turn-requires
 turn-requires c =
+    let a = c.args in
     let p = c.requires in
-    let hit = hit_is (get_or c.args.cols.now c.args.goal.0 0) c.args.seen c.both.result c.lowest.result c.both.ensures c.lowest.ensures in
+    let hit = hit_is (get_or a.cols.now a.goal.0 0) a.seen c.both.result c.lowest.result c.both.ensures c.lowest.ensures in
     (p.tree, omega (arith, hit, p.hit), p.slot_below, p.links_length, p.partners)
 
 pub returns : goal.returns
