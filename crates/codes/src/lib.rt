@@ -1,4 +1,6 @@
 // Refusals and verdicts as results of functions for C.
+#![tactic(auto)]
+
 ghost use Rattle.std.specs.Prelude.{◌≡◌, pos};
 ghost use Rattle.codes.specs.Exports.{told, told_verdict, code_of};
 
