@@ -31,7 +31,9 @@ list_refused j r h a e n is =
       asked = λ y.
           record {
             bytes = numbers_bytes (job_numbers j);
-            header_is = is ∙ refused_header_lem r (job_of (job_frame j)) n ∙ ap (λ (k : ℕ). header k (job_of (job_frame j))) (e ∙ sym (frame_number j y));
+            header_is =
+                is ∙ refused_header_lem r (job_of (job_frame j)) n ∙
+                ap (λ (k : ℕ). header k (job_of (job_frame j))) (e ∙ sym (frame_number j y));
             held = λ z. absurd (n (sym (ap (λ (h : Header). h.refusal) is) ∙ z));
           };
     }

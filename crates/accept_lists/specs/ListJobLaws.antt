@@ -74,7 +74,9 @@ module _ (nodes count : ℕ) (word : Bool) where
   list_count_few z =
       elim (dec_le count max_edges) [
         | yes l ↦ l
-        | no l ↦ absurd (many_nonzero (leb nodes max_number && leb count max_number && word) (rw (lt-leb count max_edges (omega arith)) at z))
+        | no l ↦
+            absurd
+            (many_nonzero (leb nodes max_number && leb count max_number && word) (rw (lt-leb count max_edges (omega arith)) at z))
       ]
     where
       many_nonzero : (b : Bool) → (ask b 1 λ _. 2) ≡ 0 → ⊥
@@ -116,7 +118,8 @@ module _ (nodes : ℕ) (ys : List Link) where
             let none : count_refusal nodes (length ys) (all_small ys) ≡ 0 = rw (word_small ∙ y, le-leb (length ys) max_edges l) in
             subst (λ (zs : List Link). Said (list_job nodes zs)) (firsts_take 256 ys l) (g.said none)
         | no l ↦
-            let two : count_refusal nodes (length ys) (all_small ys) ≡ 2 = rw (word_small ∙ y, lt-leb (length ys) max_edges (omega arith)) in
+            let two : count_refusal nodes (length ys) (all_small ys) ≡ 2 =
+            rw (word_small ∙ y, lt-leb (length ys) max_edges (omega arith)) in
             long y (many_two y (omega arith)) (subst Refused two (g.refused (λ z. omega (arith, two, z))))
       ])
       (λ (f : small (list_job nodes ys) ≡ false).
@@ -139,7 +142,13 @@ module _ (count : ℕ) (links : List Link) (before : Arrays) (c : Columns) (size
   column_size f {z} e so =
       ap length so ∙ filled_length f (min count 256) links z (omega (arith, size)) (omega (arith, zeros_size e)) ∙ zeros_size e
 
-  column_past : (f : Link → ℕ) {z xs : List ℕ} → z ≡ zeros 256 → xs ≡ column_put f (min count 256) links z → (e : ℕ) → count ≤ e → get_or xs e 0 ≡ 0
+  column_past :
+      (f : Link → ℕ) {z xs : List ℕ} →
+      z ≡ zeros 256 →
+      xs ≡ column_put f (min count 256) links z →
+      (e : ℕ) →
+      count ≤ e →
+      get_or xs e 0 ≡ 0
   column_past f {z} is so e l =
       ap (λ (r : List ℕ). get_or r e 0) so ∙
       filled_past f (min count 256) links z e (omega (arith, size)) (omega (arith, zeros_size is)) (omega arith) ∙
@@ -191,4 +200,5 @@ module _ (count : ℕ) (links : List Link) (before : Arrays) (c : Columns) (size
         (rows_length count c ∙ sym (length-map (take count links) job_link ∙ taken))
         λ e k.
         let below : e < count = omega (arith, rows_length count c) in
-        get_d_tabulate (link_at c) count e no_link below ∙ row_is e below ∙ sym (get_or-map job_link (take count links) e zero_link))
+        get_d_tabulate (link_at c) count e no_link below ∙ row_is e below ∙
+        sym (get_or-map job_link (take count links) e zero_link))

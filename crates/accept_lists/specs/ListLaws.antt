@@ -33,7 +33,9 @@ module _ (nodes edges : ℕ) (c : Columns) (h : ListHeld edges c) where
       fun_ext λ e.
       elim (dec_lt e edges) [
         | yes l ↦ sym (ap f (get_d_tabulate (link_at c) edges e no_link l))
-        | no l ↦ past e (omega arith) ∙ sym (ap f (get_or-eq_default (links_at edges c) no_link (omega (arith, rows_length edges c))) ∙ z)
+        | no l ↦
+            past e (omega arith) ∙
+            sym (ap f (get_or-eq_default (links_at edges c) no_link (omega (arith, rows_length edges c))) ∙ z)
       ]
 
   pub list_stored : list_layout_refusal (job_at nodes edges c) ≡ 0 → Stored (job_at nodes edges c) nodes edges c

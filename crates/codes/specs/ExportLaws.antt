@@ -17,7 +17,8 @@ use Rattle.judging.specs.declared.Verdict.{Verdict}
 use Rattle.judging.specs.declared.Verdict.TheVariants.{Yes, No, Refused}
 use Rattle.copying.specs.declared.JobCopy.{JobCopy}
 use Rattle.copying.specs.declared.AnswerCopy.{AnswerCopy}
-use Rattle.copying.specs.Copies.{job_copy, job_outcome, JobCopied, read_from, offered_answer, lastly, fit, answer_copy, answer_verdict, AnswerCopied}
+use Rattle.copying.specs.Copies.{job_copy, job_outcome, JobCopied, read_from, offered_answer, lastly}
+use Rattle.copying.specs.Copies.{fit, answer_copy, answer_verdict, AnswerCopied}
 use Rattle.codes.specs.Exports.{code_of, told, told_verdict}
 
 -- The refusal inside a verdict, plus one; 0 if it holds none.
@@ -97,7 +98,11 @@ code_told v r h e = ap (λ (z : ℤ). to_z w32 (of_z w32 z)) (e ∙ ap code_of (
 one_sayable : (v : Verdict) → v ≡ Refused 1 → Sayable v
 one_sayable v q refusal e = omega (arith, ap inside (sym q ∙ e))
 
-pub list_sayable : (j : Job) (Judged : List ℕ → Verdict → Type 0) (v : Verdict) → (Judged (job_frame j) v → Sayable v) → ListJudged j Judged v → Sayable v
+pub list_sayable :
+    (j : Job) (Judged : List ℕ → Verdict → Type 0) (v : Verdict) →
+    (Judged (job_frame j) v → Sayable v) →
+    ListJudged j Judged v →
+    Sayable v
 list_sayable j Judged v h k = ⊎_elim (λ y. h (k.said y)) (λ n. one_sayable v (k.large n)) (truth (small j))
 
 pub list_answered_most : (j : Job) (area : List ℕ) (r : Reply) (after : List ℕ) → ListAnswered j area r after → r.refusal ≤ 31
@@ -141,7 +146,10 @@ copy_verdict Yes a = refl
 copy_verdict No a = refl
 copy_verdict (Refused n) a = refl
 
-pub copied_sayable : (s f room₁ room₂ : List ℕ) (r : AnswerCopy) (after₁ after₂ : List ℕ) → AnswerCopied s f room₁ room₂ r after₁ after₂ → Sayable r.verdict
+pub copied_sayable :
+    (s f room₁ room₂ : List ℕ) (r : AnswerCopy) (after₁ after₂ : List ℕ) →
+    AnswerCopied s f room₁ room₂ r after₁ after₂ →
+    Sayable r.verdict
 copied_sayable s f room₁ room₂ r after₁ after₂ c =
     let v = answer_verdict s f room₁ room₂ in
     subst Sayable (sym (ap (λ (r : AnswerCopy). r.verdict) c.said ∙ copy_verdict v (offered_answer s f)))

@@ -1,6 +1,6 @@
 -- What the functions for C promise: a service's promise, with its reply or verdict told in plain numbers. Definitions only.
 -- Assumes nothing.
-use Rattle.std.specs.Prelude.{ℕ, min, ◌≡◌, List, length, ℤ, pos, negsuc}
+use Rattle.std.specs.Prelude.{ℕ, min, ◌≡◌, List, ℤ, pos, negsuc}
 use Rattle.records.specs.declared.Link.{Link}
 use Rattle.records.specs.declared.ListCopy.{ListCopy}
 use Rattle.records.specs.Records.{list_copy}

@@ -81,7 +81,8 @@ module _ (nodes : ℕ) (ys : List Link) where
       (λ f u. large_written (list_job nodes ys) f area r after u)
       (λ y two u.
       let s = job_frame (list_job nodes ys) in
-      small_written (list_job nodes ys) y area r after (untouched_written 2 s (λ z. omega (arith, z)) u ∙ ap (λ (n : ℕ). written n s 0 area) (sym two)))
+      small_written (list_job nodes ys) y area r after
+      (untouched_written 2 s (λ z. omega (arith, z)) u ∙ ap (λ (n : ℕ). written n s 0 area) (sym two)))
 
   pub lent_located :
       (f : List ℕ) →
@@ -96,5 +97,6 @@ module _ (nodes : ℕ) (ys : List Link) where
       record {
         large = λ n. clash y n;
         said =
-            λ _. cost_refused_nowhere (job_frame (list_job nodes ys)) f (numbers_bytes (job_numbers (list_job nodes ys))) b e (λ z. omega (arith, two, z)) place is;
+            λ _. cost_refused_nowhere (job_frame (list_job nodes ys)) f (numbers_bytes (job_numbers (list_job nodes ys))) b e
+            (λ z. omega (arith, two, z)) place is;
       })

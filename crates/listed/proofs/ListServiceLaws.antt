@@ -41,7 +41,11 @@ module _ {area : List ℕ} {r : Reply} {after : List ℕ} where
   untouched : (n : ℕ) (bytes : List ℕ) → n ≢ 0 → outcome r after ≡ written n bytes 0 area → Untouched n area r after
   untouched n bytes nonzero e =
       let o = e ∙ sym (put_refused n bytes 0 area nonzero) in
-      record { number = ap (λ (o : Outcome). o.refusal) o; nothing = ap (λ (o : Outcome). o.size) o; same = ap (λ (o : Outcome). o.area) o }
+      record {
+        number = ap (λ (o : Outcome). o.refusal) o;
+        nothing = ap (λ (o : Outcome). o.size) o;
+        same = ap (λ (o : Outcome). o.area) o;
+      }
 
   pub untouched_written : (n : ℕ) (bytes : List ℕ) → n ≢ 0 → Untouched n area r after → outcome r after ≡ written n bytes 0 area
   untouched_written n bytes nonzero u =
@@ -67,7 +71,12 @@ small_written j y area r after e =
     }
 
 -- A list with a large number is refused by question 1.
-pub large_written : (j : Job) → small j ≡ false → (area : List ℕ) (r : Reply) (after : List ℕ) → Untouched 1 area r after → ListWritten j area r after
+pub large_written :
+    (j : Job) →
+    small j ≡ false →
+    (area : List ℕ) (r : Reply) (after : List ℕ) →
+    Untouched 1 area r after →
+    ListWritten j area r after
 large_written j f area r after u =
     record {
       large = λ _. u;
@@ -98,7 +107,9 @@ module _ {h : Header} {b : Arrays} (j : Job) (a : ListAccepted j h b) where
       ListAnswered j area r after
   list_answered area r after said refused =
       record {
-        large = λ n. let one = asked_large n a in subst (λ (x : ℕ). Untouched x area r after) one (refused (λ z. omega (arith, one, z)));
+        large = λ n.
+            let one = asked_large n a in
+            subst (λ (x : ℕ). Untouched x area r after) one (refused (λ z. omega (arith, one, z)));
         said = λ y. said (job_frame j) (a.asked y);
       }
 
@@ -129,7 +140,9 @@ module _ {h : Header} {b : Arrays} (j : Job) (a : ListAccepted j h b) where
         let bytes = job_frame (job_at h.nodes h.edges b.links) in
         ⊎_elim
         (λ y. small_written j y area r after (frame_said y))
-        (λ f. large_written j f area r after (untouched 1 bytes (λ z. omega (arith, z)) (e ∙ ap (λ (n : ℕ). written n bytes 0 area) (asked_large f a))))
+        (λ f.
+        large_written j f area r after
+        (untouched 1 bytes (λ z. omega (arith, z)) (e ∙ ap (λ (n : ℕ). written n bytes 0 area) (asked_large f a))))
         (truth (small j))
 
 -- ---- what was given of a list was accepted or refused
@@ -161,7 +174,8 @@ module _ {nodes : ℕ} {list : ListCopy} {h : Header} {b : Arrays}
       ((s : List ℕ) → Asked s h b → Judged s r) →
       (h.refusal ≢ 0 → r ≡ Refused h.refusal) →
       Given nodes list (λ n. r ≡ Refused n) (λ j. ListJudged j Judged r)
-  given_judged Judged r said refused = record { refused = early (λ n. r ≡ Refused n) refused; said = λ z. list_judged _ (g.said z) Judged r said refused }
+  given_judged Judged r said refused =
+      record { refused = early (λ n. r ≡ Refused n) refused; said = λ z. list_judged _ (g.said z) Judged r said refused }
 
   pub given_answered :
       (area : List ℕ) (r : Reply) (after : List ℕ) →
@@ -169,7 +183,10 @@ module _ {nodes : ℕ} {list : ListCopy} {h : Header} {b : Arrays}
       (h.refusal ≢ 0 → Untouched h.refusal area r after) →
       Given nodes list (λ n. Untouched n area r after) (λ j. ListAnswered j area r after)
   given_answered area r after said refused =
-      record { refused = early (λ n. Untouched n area r after) refused; said = λ z. list_answered _ (g.said z) area r after said refused }
+      record {
+        refused = early (λ n. Untouched n area r after) refused;
+        said = λ z. list_answered _ (g.said z) area r after said refused;
+      }
 
   pub given_located :
       (f : List ℕ) (e : ℕ) (place : Place) →

@@ -1,6 +1,8 @@
 // Services on lists of links that judge and find. The list comes as what a function over a lent list of records hands on: its
 // length, the word that its numbers are small and its first 256 links. Each service promises its outcome for
 // whatever it is given, be it of a list or not; links of the copy behind the length do not count.
+#![tactic(auto)]
+
 ghost use Rattle.std.specs.Prelude.{◌≡◌};
 ghost use Rattle.judging.specs.Verdicts.{TreeJudged, AnswerJudged};
 ghost use Rattle.judging.specs.declared.Verdict.TheVariants.{Refused};

@@ -1,5 +1,7 @@
 // Services on lists of links that write into an area: the list's job frame, or the answer to it. What is given of a list, and
 // what is promised of it, is as in crate `lists`.
+#![tactic(auto)]
+
 ghost use Rattle.answering.specs.Answering.{Untouched};
 ghost use Rattle.accept_lists.specs.Given.{Given};
 ghost use Rattle.listed.specs.ListServices.{ListWritten, ListAnswered};

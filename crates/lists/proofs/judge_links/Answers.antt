@@ -1,0 +1,12 @@
+-- `lists::judge_links` meets its contract: the list is asked the six questions as its frame would be. Assumes nothing.
+use Rattle.judging.specs.Verdicts.{TreeJudged}
+use Rattle.listed.proofs.ListServiceLaws.{given_judged}
+use Rattle.lists.proofs.judge_links.Goals as goal
+
+pub judge_held-requires : goal.judge_held-requires
+judge_held-requires c = c.accept_links-header.ensures.job
+
+pub returns : goal.returns
+returns c =
+    given_judged c.accept_links-header.ensures.list TreeJudged c.judge_held.result c.judge_held.ensures.judged
+    c.judge_held.ensures.refused
