@@ -14,6 +14,6 @@ returns c =
       number = number_told _ _ most c.number.ensures;
       length = refl;
       count = c.first_code.ensures;
-      never = λ e. never_told _ _ _ _ _ ? told (sym c.first_code.ensures ∙ e);
+      never = λ e. never_told _ _ _ _ _ (omega arith) told (sym c.first_code.ensures ∙ e);
       told = told;
     }
