@@ -1,5 +1,4 @@
-// The functions for C over a lent list of link records. The borrow checker does not cover such a list: each function over it
-// is proved by hand, and only hands a copy to its function of crate `ist_lists` or `ist_writers`.
+// The functions for C over a lent list of link records: each hands a copy to its function of crate `ist_lists` or `ist_writers`.
 ghost use Rattle.judging.specs.Verdicts.{TreeJudged, AnswerJudged};
 ghost use Rattle.accept.specs.ListJobs.{list_job};
 ghost use Rattle.listed.specs.ListServices.{ListWritten, ListAnswered, ListJudged, ListCostLocated};
