@@ -14,8 +14,7 @@ loop-left-init c =
 pub cost_at-requires : goal.cost_at-requires
 cost_at-requires c =
     let l = c.loop-left in
-    let r = c.requires.spares in
-    (
+    let r = c.requires.spares in (
       omega (arith, r.few, l.invariant.fewer, c.loop-left-test.true),
       r.edges _ (omega (arith, l.invariant.fewer, c.loop-left-test.true)),
     )
@@ -31,11 +30,10 @@ label_spare-live-requires c =
     let a = c.args in
     let s = l.left - 1 in
     let r = c.requires.spares in record {
-      edge =
-          (
-            omega (arith, r.few, l.invariant.fewer, c.loop-left-test.true),
-            r.edges s (omega (arith, l.invariant.fewer, c.loop-left-test.true)),
-          );
+      edge = (
+        omega (arith, r.few, l.invariant.fewer, c.loop-left-test.true),
+        r.edges s (omega (arith, l.invariant.fewer, c.loop-left-test.true)),
+      );
       slot = r.slots s (omega (arith, l.invariant.fewer, c.loop-left-test.true));
       room = room_kept a.words.now a.links.now l.words l.links l.invariant.kept a.label.now l.label c.requires.room l.invariant.size;
     }

@@ -23,8 +23,8 @@ returns-then-high-goal_cost c =
     let small : c.cost_at-high.result < 4294967296 = omega arith in
     let b = tables a.cols.now a.words.now a.links.now a.spare.now a.slot.now in
     let known =
-        compared {b = b} a.at.live c.requires c.below.ensures c.first_over-low.ensures c.cost_at-high.ensures small
-        c.goal_cost.ensures
+    compared {b = b} a.at.live c.requires c.below.ensures c.first_over-low.ensures c.cost_at-high.ensures small
+    c.goal_cost.ensures
     in
     augmented_none known c.if-high-goal_cost.true
 
@@ -34,8 +34,8 @@ returns-then-high-least c =
     let small : c.cost_at-high.result < 4294967296 = omega arith in
     let b = tables a.cols.now a.words.now a.links.now a.spare.now a.slot.now in
     let known =
-        compared {b = b} a.at.live c.requires c.below.ensures c.first_over-low.ensures c.cost_at-high.ensures small
-        c.goal_cost.ensures
+    compared {b = b} a.at.live c.requires c.below.ensures c.first_over-low.ensures c.cost_at-high.ensures small
+    c.goal_cost.ensures
     in
     augmented_off known c.if-high-goal_cost.false c.explore-live.ensures c.goal_over-goal.ensures c.goal_cost-least.ensures
     c.if-high-least.true
@@ -46,8 +46,8 @@ pair-requires c =
     let small : c.cost_at-high.result < 4294967296 = omega arith in
     let b = tables a.cols.now a.words.now a.links.now a.spare.now a.slot.now in
     let known =
-        compared {b = b} a.at.live c.requires c.below.ensures c.first_over-low.ensures c.cost_at-high.ensures small
-        c.goal_cost.ensures
+    compared {b = b} a.at.live c.requires c.below.ensures c.first_over-low.ensures c.cost_at-high.ensures small
+    c.goal_cost.ensures
     in
     pair_able known c.if-high-goal_cost.false c.explore-live.ensures c.goal_over-goal.ensures c.goal_cost-least.ensures
     c.if-high-least.false
@@ -58,8 +58,8 @@ returns c =
     let small : c.cost_at-high.result < 4294967296 = omega arith in
     let b = tables a.cols.now a.words.now a.links.now a.spare.now a.slot.now in
     let known =
-        compared {b = b} a.at.live c.requires c.below.ensures c.first_over-low.ensures c.cost_at-high.ensures small
-        c.goal_cost.ensures
+    compared {b = b} a.at.live c.requires c.below.ensures c.first_over-low.ensures c.cost_at-high.ensures small
+    c.goal_cost.ensures
     in
     augmented_on known c.if-high-goal_cost.false c.explore-live.ensures c.goal_over-goal.ensures c.goal_cost-least.ensures
     c.if-high-least.false c.pair.ensures c.with.result c.with.ensures
