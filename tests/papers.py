@@ -17,18 +17,24 @@ def listed():
     return [line for line in text("crates.txt").splitlines() if line and not line.startswith("#")]
 
 
+def theory(crate, name):
+    """Where a file of definitions or theorems may stand."""
+    return [CRATES / crate / folder / f"{name}.antt" for folder in ("specs", "proofs")]
+
+
 def promises(names, wrong):
     page = text("docs/PROMISES.md")
     for crate, name in re.findall(r"`([a-z_0-9]+)/([A-Za-z_0-9]+)`", page):
         if crate not in names:
             continue
-        folder, ending = ("must-fail", "edit") if name[0].islower() else ("specs", "antt")
-        if name != "proofs" and not (CRATES / crate / folder / f"{name}.{ending}").exists():
+        here = CRATES / crate
+        places = [here / "must-fail" / f"{name}.edit"] if name[0].islower() else theory(crate, name)
+        if name != "proofs" and not any(place.exists() for place in places):
             wrong.append(f"PROMISES: {crate}/{name}")
     for crate, name, laws in re.findall(r"`([a-z_0-9]+)/([A-Z]\w+)` ((?:`[a-z][\w-]*`(?:, )?)+)", page):
-        source = CRATES / crate / "specs" / f"{name}.antt"
+        sources = [place.read_text() for place in theory(crate, name) if place.exists()]
         for law in re.findall(r"`([^`]+)`", laws):
-            if source.exists() and not re.search(rf"(?<![\w-]){re.escape(law)} :", source.read_text()):
+            if sources and not any(re.search(rf"(?<![\w-]){re.escape(law)} :", source) for source in sources):
                 wrong.append(f"PROMISES: {crate}/{name} {law}")
     for path in re.findall(r"`([a-z_0-9]+/(?:specs|src|proofs)/[\w./]+)`", page):
         if not (CRATES / path).exists():
@@ -44,7 +50,7 @@ def promises(names, wrong):
 
 def main():
     wrong = []
-    names = [line.split(":")[0] for line in listed()]
+    names = [line.split(":")[0].split()[0] for line in listed()]
     edits = promises(names, wrong)
     rooms = re.findall(r"^\| `([a-z_0-9]+)` \| (?:code|theory|constants|types|program|C library|table, program) \|", text("docs/ARCHITECTURE.md"), re.M)
     if rooms != names:

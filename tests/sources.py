@@ -20,9 +20,9 @@ def words(source):
 
 
 def is_used(name, found):
-    """Is a name among the words? Of an operator such as _≤_ each part has to be."""
-    parts = [part for part in name.split("_") if part]
-    return name in found or name == "[]" or ("_" in name and all(any(part in word for word in found) for part in parts))
+    """Is a name among the words? Of an operator such as ◌≤◌ each part has to be."""
+    parts = [part for part in name.split("◌") if part]
+    return name in found or name == "[]" or ("◌" in name and all(any(part in word for word in found) for part in parts))
 
 
 def unused(source):
@@ -52,7 +52,7 @@ def public(source):
 def main():
     wrong = []
     homes = collections.defaultdict(set)
-    sources = sorted(path for path in CRATES.rglob("*") if path.suffix in (".rt", ".antt"))
+    sources = sorted(path for path in CRATES.rglob("*") if path.suffix in (".rt", ".antt") and "out" not in path.parts)
     for path in sources:
         source, name = path.read_text(), path.relative_to(CRATES)
         long = [i for i, line in enumerate(source.splitlines(), 1) if len(line) > WIDTH]
