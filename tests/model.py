@@ -4,7 +4,7 @@ Run: python3 tests/model.py [COUNT]    COUNT random jobs (default 80), 3 refused
 of document 01. Some 100 seconds. `rt` must be on the PATH. Nothing in this repository is changed.
 
 It copies crates/ and crates.txt into a temporary directory and adds a crate `probe`. Its specs state, a fact a result and
-each by `refl`, that the model computes what the reference found; `rt check probe` checks them. Then two facts are stated
+each by `refl`, that the model computes what the reference found; `rt check` checks them. Then two facts are stated
 wrongly, and rt must refuse both. It prints figures and OK, or every fact that failed with its job's bytes.
 """
 import random
@@ -556,7 +556,7 @@ def write_probe(repo, facts):
 def check(repo, facts):
     """Lets rt check the facts: whether all hold, and what it printed."""
     write_probe(repo, facts)
-    run = subprocess.run(["rt", "check", "probe"], cwd=repo, text=True, stdout=subprocess.PIPE, stderr=subprocess.STDOUT)
+    run = subprocess.run(["rt", "check"], cwd=repo / "crates" / "probe", text=True, stdout=subprocess.PIPE, stderr=subprocess.STDOUT)
     proved = any(line.startswith("logic=proved") for line in run.stdout.splitlines())
     return run.returncode == 0 and proved, run.stdout
 
