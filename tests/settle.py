@@ -343,7 +343,7 @@ def runs(rng, wanted):
 
 def main():
     if not os.path.exists(PROGRAM):
-        sys.exit("tests/settle.py needs crates/settle/out/settle: rt check settle builds it")
+        sys.exit("tests/settle.py needs crates/settle/out/settle: rt run in crates/settle builds it")
     wanted = int(sys.argv[1]) if len(sys.argv) > 1 else 3000
     rng = random.Random(int(sys.argv[2]) if len(sys.argv) > 2 else 1)
     kinds, numbers, kept, most, unplugged = Counter(), Counter(), 0, 0, 0
