@@ -7,8 +7,7 @@ ghost use Rattle.codes.specs.Exports.{Said, Replied};
 use records::Link;
 
 // Is the marked tree of a list cheapest?
-#[unsafe(no_mangle)]
-pub extern "C" fn ist_judge_list(stations: u32, list: &[Link]) -> i32
+pub fn ist_judge_list(stations: u32, list: &[Link]) -> i32
     ensures { Said (ListJudged (list_job stations list.now) TreeJudged) result }
 {
     let copy = records::copy_list(list);
@@ -16,8 +15,7 @@ pub extern "C" fn ist_judge_list(stations: u32, list: &[Link]) -> i32
 }
 
 // Is a frame an answer to a list?
-#[unsafe(no_mangle)]
-pub extern "C" fn ist_judge_answer_list(stations: u32, list: &[Link], answer: &[u8]) -> i32
+pub fn ist_judge_answer_list(stations: u32, list: &[Link], answer: &[u8]) -> i32
     ensures { Said (ListJudged (list_job stations list.now) (λ s. AnswerJudged s answer.now)) result }
 {
     let copy = records::copy_list(list);
@@ -25,13 +23,7 @@ pub extern "C" fn ist_judge_answer_list(stations: u32, list: &[Link], answer: &[
 }
 
 // Answers a list into the area.
-#[unsafe(no_mangle)]
-pub extern "C" fn ist_answer_list(
-    stations: u32,
-    list: &[Link],
-    area: &mut [u8],
-    written: &mut usize,
-) -> i32
+pub fn ist_answer_list(stations: u32, list: &[Link], area: &mut [u8], written: &mut usize) -> i32
     ensures { Replied (λ reply. ListAnswered (list_job stations list.now) area.old reply area.new) result
         written.new }
 {
@@ -40,13 +32,7 @@ pub extern "C" fn ist_answer_list(
 }
 
 // Writes the job frame of a list into the area.
-#[unsafe(no_mangle)]
-pub extern "C" fn ist_write_job(
-    stations: u32,
-    list: &[Link],
-    area: &mut [u8],
-    written: &mut usize,
-) -> i32
+pub fn ist_write_job(stations: u32, list: &[Link], area: &mut [u8], written: &mut usize) -> i32
     ensures { Replied (λ reply. ListWritten (list_job stations list.now) area.old reply area.new) result
         written.new }
 {
@@ -55,8 +41,7 @@ pub extern "C" fn ist_write_job(
 }
 
 // Where a link's new cost stands in a frame that is offered as an answer to a list.
-#[unsafe(no_mangle)]
-pub extern "C" fn ist_find_cost_list(
+pub fn ist_find_cost_list(
     stations: u32,
     list: &[Link],
     answer: &[u8],
