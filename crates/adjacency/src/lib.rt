@@ -23,7 +23,7 @@ fn put_edge(k: TreeRank, e: Edge, end1: &[u32; 256], end2: &[u32; 256], adj: &mu
     let i = e.0 as usize;
     let u = end1[i];
     let v = end2[i];
-    put_rank(TreeRank(k.0), Node(u), adj);
+    put_rank(k, Node(u), adj);
     put_rank(k, Node(v), adj);
 }
 

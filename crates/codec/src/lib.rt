@@ -9,21 +9,21 @@ ghost use Rattle.codec.specs.Numbers.{taken_at, skipped, numbers_at, Put, Divide
 use leb128::Number;
 
 // A number and the position behind it.
-#[derive(Drop)]
+#[derive(Clone, Copy)]
 pub struct Taken {
     pub value: u32,
     pub next: usize,
 }
 
 // Where a part of a frame stands.
-#[derive(Drop)]
+#[derive(Clone, Copy)]
 pub struct Part {
     pub offset: usize,
     pub length: usize,
 }
 
 // A refusal and 0, or 0 and the length written.
-#[derive(Drop)]
+#[derive(Clone, Copy)]
 pub struct Reply {
     pub refusal: u32,
     pub length: usize,

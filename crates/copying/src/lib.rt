@@ -9,7 +9,7 @@ use judging::Verdict;
 use records::Link;
 
 // What is said of a job that was copied: the refusal; or 0, the station count and the link count.
-#[derive(Drop)]
+#[derive(Clone, Copy)]
 pub struct JobCopy {
     pub refusal: u32,
     pub nodes: u32,
@@ -51,7 +51,7 @@ pub fn copy_job(frame: &[u8], links: &mut [u32]) -> JobCopy
 
 // What is said of an answer that was offered: the judge's verdict, or refusal 7 of one judged yes; if it was copied, its steps,
 // how many costs it has, one for each link, and how many pairs.
-#[derive(Drop)]
+#[derive(Clone, Copy)]
 pub struct AnswerCopy {
     pub verdict: Verdict,
     pub steps: u32,

@@ -9,14 +9,14 @@ ghost use Rattle.division.specs.Counting.{count_from, Counting, may_follow, foll
 use leb128::Number;
 
 // How many numbers a frame divides into, or that it does not (question 1).
-#[derive(Drop)]
+#[derive(Clone, Copy)]
 pub enum Numbers {
     Count(usize),
     Refused,
 }
 
 // A position of a frame and how many numbers end before it.
-#[derive(Drop)]
+#[derive(Clone, Copy)]
 struct Passed {
     at: usize,
     count: usize,

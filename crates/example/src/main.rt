@@ -29,12 +29,12 @@ fn print_costs(rt: &impl Print, old: u32, new: u32) -> io::Result<()> {
 // One new cost, read from the answer frame's own bytes: none are found if there is no such link. A link's number has a type of
 // its own, so that no station is taken for it.
 fn print_cost(rt: &impl Print, frame: &[u8], answer: &[u8], edge: Edge) -> io::Result<()> {
-    let link = edge.0;
     let part = finding::find_cost(frame, answer, edge);
     let number = leb128::read_short(part, 0);
     let Number::Value(cost, _) = number else {
         return Ok(());
     };
+    let link = edge.0;
     println!(rt; "link {link} costs {cost}")
 }
 

@@ -14,7 +14,7 @@ use ids::Edge;
 use limits::{MOST_EDGES, MOST_NODES};
 
 // The refusal by questions 1 to 3; or 0, the two counts and the position behind them.
-#[derive(Drop)]
+#[derive(Clone, Copy)]
 pub struct Counts {
     pub refusal: u32,
     pub nodes: u32,
@@ -23,7 +23,7 @@ pub struct Counts {
 }
 
 // A refusal; or 0 and the two counts.
-#[derive(Drop)]
+#[derive(Clone, Copy)]
 pub struct Header {
     pub refusal: u32,
     pub nodes: u32,

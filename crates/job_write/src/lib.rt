@@ -12,7 +12,7 @@ ghost use Rattle.job_write.specs.Groups.{group};
 use codec::{Reply, refused};
 
 // Numbers of a job frame that stand together: the two counts, or the four of a link.
-#[derive(Drop)]
+#[derive(Clone, Copy)]
 struct Group {
     numbers: [u32; 4],
     count: usize,

@@ -88,7 +88,7 @@ fn label_spare(
 }
 
 // How many spare ranks, from the lowest on, are left as origins, and the slots that have no label yet.
-#[derive(Drop)]
+#[derive(Clone, Copy)]
 pub struct Origins {
     pub spares: u32,
     pub live: u64,

@@ -6,7 +6,7 @@ ghost use Rattle.leb128.specs.Positions.{read_at, Stands};
 ghost use Rattle.leb128.specs.declared.Number.TheVariants.{Value};
 
 // What stands at a position of a frame.
-#[derive(Drop)]
+#[derive(Clone, Copy)]
 pub enum Number {
     // A number, and the position behind it.
     Value(u32, usize),
@@ -15,7 +15,7 @@ pub enum Number {
 }
 
 // A number that is known to stand at a position, and the position behind it.
-#[derive(Drop)]
+#[derive(Clone, Copy)]
 pub struct Known {
     pub value: u32,
     pub next: usize,

@@ -31,7 +31,7 @@ fn goal_cost(goal: SpareRank, spares: u32, cost: &[u32; 256], ss: &[u32; 256]) -
 
 // How many pairs there are, the lowest spare rank that may be in none, the slots that no failed exploration has visited, and the
 // weight of the pairs.
-#[derive(Drop)]
+#[derive(Clone, Copy)]
 pub struct Progress {
     pub slots: u32,
     pub low: u32,
@@ -74,7 +74,7 @@ fn augment(
             weight: at.weight,
         };
     }
-    let live = search::explore(TreeRank(t.0), at.live, cols[low as usize], words, links);
+    let live = search::explore(t, at.live, cols[low as usize], words, links);
     let seen = words[64];
     let goal = goals::goal_over(low, spares, seen, cols);
     let least = goal_cost(SpareRank(goal), spares, cost, ss);
@@ -87,7 +87,7 @@ fn augment(
         };
     }
     slots::pair(
-        TreeRank(t.0),
+        t,
         SpareRank(goal),
         Slot(n),
         seen,

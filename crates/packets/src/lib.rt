@@ -15,7 +15,7 @@ use leb128::Number;
 use limits::MOST_NUMBER;
 
 // What stands at a position of a log.
-#[derive(Drop)]
+#[derive(Clone, Copy)]
 pub enum Packet {
     // A link, whether its cost goes up, and the position behind them.
     Step(u32, bool, usize),

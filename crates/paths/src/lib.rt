@@ -10,7 +10,7 @@ ghost use Rattle.paths.specs.Arrays.{array_graph, across, held, tried, tried_wor
 use ids::{Edge, Node, TreeRank};
 
 // What has been found from node 0: how many nodes, and which.
-#[derive(Drop)]
+#[derive(Clone, Copy)]
 pub struct Front {
     pub found: u32,
     pub reached: u64,

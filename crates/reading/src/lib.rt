@@ -141,10 +141,9 @@ pub fn read_answer(frame: &[u8], offered: &[u8]) -> AnswerRead
     let header = accept(
         frame, &mut end1, &mut end2, &mut cost, &mut mark, &mut ts, &mut mask, true,
     );
-    let edges = header.edges;
     let verdict = judge_answer_held(header, &end1, &end2, &cost, &mark, &ts, &mask, offered);
     let Verdict::Yes = verdict else {
         return not_read(verdict);
     };
-    read_contents(offered, edges as usize)
+    read_contents(offered, header.edges as usize)
 }

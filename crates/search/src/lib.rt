@@ -22,7 +22,7 @@ fn try_tree(t: TreeRank, live: u64, words: &mut [u64; 66], links: &mut [u32; 128
         if over == 0 {
             return left;
         }
-        left = try_slot(TreeRank(t.0), Slot(bits::highest(over)), left, words, links);
+        left = try_slot(t, Slot(bits::highest(over)), left, words, links);
     }
 }
 

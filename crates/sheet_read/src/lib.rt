@@ -13,7 +13,7 @@ use leb128::Number;
 use limits::MOST_NUMBER;
 
 // What stands at a position of a sheet.
-#[derive(Drop)]
+#[derive(Clone, Copy)]
 pub enum Entry {
     // A link, the code of its change, and the position behind them.
     Moved(u32, u32, usize),
@@ -22,7 +22,7 @@ pub enum Entry {
 }
 
 // A cost that a change leads to.
-#[derive(Drop)]
+#[derive(Clone, Copy)]
 pub enum Cost {
     Inside(u32),
     // Below 0 or above the largest.

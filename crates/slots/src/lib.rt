@@ -64,7 +64,7 @@ pub fn pair(
 {
     let g = goal.0 as usize;
     let column = cols[g];
-    fill(Slot(n.0), column, words);
+    fill(n, column, words);
     cols[g] = 0;
     spare[n.0 as usize] = goal.0;
     slot[g] = n.0;

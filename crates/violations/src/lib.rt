@@ -66,7 +66,7 @@ fn spares_at(
     let mut at: usize = 0;
     while at < edges {
         let s = at as u32;
-        if meets(Edge(s), TreeRank(k.0), x, end1, end2, cost, mark, mask) {
+        if meets(Edge(s), k, x, end1, end2, cost, mark, mask) {
             found += 1;
         }
         at += 1;
