@@ -91,7 +91,13 @@ module _ (mate : List ℕ) where
       pub listed_one : 0 < get_or mate e 0 → n < 64 → PairsListed (mate_pairs (e + 1) mate) (n + 1) (pair_stored ps n e (get_or mate e 0 - 1))
       listed_one m b =
           record {
-            count = omega (arith, l.count, ap length (mates_one e m), length-append (mate_pairs e mate) (record { tree = e; spare = get_or mate e 0 - 1 } ∷ []));
+            count = omega (
+              arith,
+              l.count,
+              ap length (mates_one e m),
+              length-append (mate_pairs e mate)
+                  (record { tree = e; spare = get_or mate e 0 - 1 } ∷ []),
+            );
             pairs = pairs_stored n e (get_or mate e 0 - 1) ps (omega (arith, l.places)) ∙ rw (l.pairs, mates_one e m);
             places = length_stored ps n e (get_or mate e 0 - 1) ∙ l.places;
           }

@@ -207,19 +207,20 @@ module _ (m : ℕ) (s : List ℕ) (h : Bytes s) (v next : ℕ) (e : read_at step
                 pairs = ap length new_pairs ∙ length-sets ps 0 rest ∙ room-pairs;
               };
               costs =
-                  λ e l. ap (λ (x : List ℕ). get_or x e 0) new_costs_lem ∙ sets_past (take m ns) cs e (omega (arith, taken, room, edges)) (omega (arith, taken, l));
+                  λ e l. ap (λ (x : List ℕ). get_or x e 0) new_costs_lem
+                  ∙ sets_past (take m ns) cs e (omega (arith, taken, room, edges)) (omega (arith, taken, l));
               pairs =
                   λ i l. ap (λ (x : List ℕ). get_or x i 0) new_pairs ∙ sets_past rest ps i (omega (arith, two, room-pairs, most)) (omega (arith, two, l));
             }
 
 -- A frame that is not read.
-pub no_answer :
+pub no_answer_lem :
     (m : ℕ) (r : Contents) (cs ps : List ℕ) (o : Option Answer) {Kept : Type 0} →
     r ≡ no_contents →
     o ≡ none →
     (contents m r cs ps ≡ o) × ((r.count ≤ 64) × (r.ok ≡ true → Kept))
 unfolding contents
-no_answer m r cs ps o e z = (rw (e, z) refl, (rw e (omega arith), λ y. clash y (ap (λ (c : Contents). c.ok) e)))
+no_answer_lem m r cs ps o e z = (rw (e, z) refl, (rw e (omega arith), λ y. clash y (ap (λ (c : Contents). c.ok) e)))
 
 -- What the reader's result says of the frame's content: it is the answer in the arrays, or there are too many pairs.
 module _ (m : ℕ) (r : Contents) (cs ps : List ℕ) where

@@ -41,7 +41,11 @@ module _ (xs : List ℕ) where
 
   pub bytes_more : (n : ℕ) → bytes_of (numbers_at (n + 1) xs) ≡ bytes_of (numbers_at n xs) ++ encode number_bytes (get_or xs n 0)
   unfolding flat_map
-  bytes_more n = rw (numbers_more n, flat_map_append (encode number_bytes) (numbers_at n xs) (get_or xs n 0 ∷ []), append-nil (encode number_bytes (get_or xs n 0)))
+  bytes_more n = rw (
+    numbers_more n,
+    flat_map_append (encode number_bytes) (numbers_at n xs) (get_or xs n 0 ∷ []),
+    append-nil (encode number_bytes (get_or xs n 0)),
+  )
 
   pub size_more : (n : ℕ) → length (bytes_of (numbers_at (n + 1) xs)) ≡ length (bytes_of (numbers_at n xs)) + length (encode number_bytes (get_or xs n 0))
   size_more n = ap length (bytes_more n) ∙ length-append (bytes_of (numbers_at n xs)) (encode number_bytes (get_or xs n 0))

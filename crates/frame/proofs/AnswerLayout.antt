@@ -1,7 +1,8 @@
 -- The layout of answer frames: what the reader finds is what the frame is the layout of. So what is written is read back, what is
 -- read and written again is the same bytes, and a frame has one content. Assumes nothing.
 use Rattle.std.specs.Prelude.{ℕ, zero, suc, ◌+◌, ◌*◌, ◌^◌, ◌<◌, ◌≤◌, ◌↔◌, Bool, true, false, eqb, length, take, drop}
-use Rattle.std.proofs.Common.{arith, add-one, sym, subst, ◌∙◌, length-append, length-drop, take-append-drop, take-suc, drop-cons, ext_get_or, length-take-le, eqb-true, eq-eqb}
+use Rattle.std.proofs.Common.{arith, add-one, sym, subst, ◌∙◌, length-append, length-drop, take-append-drop, take-suc, drop-cons}
+use Rattle.std.proofs.Common.{ext_get_or, length-take-le, eqb-true, eq-eqb}
 use Rattle.std.proofs.Math.Path.{◌≡◌, refl}
 use mathlib.Core.List.{List, [], ◌∷◌, ◌++◌, flat_map, append_assoc}
 use Rattle.std.proofs.Math.Option.{Option, some, none}

@@ -69,7 +69,8 @@ place_in : ℕ → ℕ → List ℕ → Place
 place_in refused e ns = place_when (eqb refused 0 && ltb e (edge_count ns)) (link_offset ns e) (link_length ns e)
 
 -- The link finder hands back the bytes of the link's four numbers.
-pub link_shown : (s : List ℕ) (e : ℕ) → Bytes s → refusal s ≡ 0 → e < length (job_of s).links → link_part (refusal s) s e ≡ bytes_of (fields (link (job_of s) e))
+pub link_shown : (s : List ℕ) (e : ℕ) → Bytes s → refusal s ≡ 0 → e < length (job_of s).links
+    → link_part (refusal s) s e ≡ bytes_of (fields (link (job_of s) e))
 unfolding place_in
 link_shown s e h r l =
     ap (λ ns. part_at (place_in (refusal s) e ns) s) (accepted_numbers s h r)

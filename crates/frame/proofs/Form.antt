@@ -137,7 +137,8 @@ module _ (s ns : List ℕ) (d : Divides s ns) where
       (λ n. rw n (no5 ns d h₂ h₃ h₄ (refutes (question5_means (job_from ns)) n)))
       (truth (question5 (job_from ns)))
 
-  turn4 : Counted ns → Complete ns → FirstNo s (ask (question4 (job_from ns)) 4 λ _. ask (question5 (job_from ns)) 5 λ _. ask (question6 (job_from ns)) 6 λ _. 0)
+  turn4 : Counted ns → Complete ns → FirstNo s
+      (ask (question4 (job_from ns)) 4 λ _. ask (question5 (job_from ns)) 5 λ _. ask (question6 (job_from ns)) 6 λ _. 0)
   turn4 h₂ h₃ =
       ⊎_elim
       (λ y. rw y (turn5 h₂ h₃ ((question4_means (job_from ns)).0 y)))
@@ -210,7 +211,13 @@ first_no_unique s r h (no3 ns d h₂ q) = rw ((division s ns h).1 d, (question2_
 first_no_unique s r h (no4 ns d h₂ h₃ q) =
     rw ((division s ns h).1 d, (question2_means ns).1 h₂, (question3_means ns).1 h₃, refuted (question4_means (job_from ns)) q)
 first_no_unique s r h (no5 ns d h₂ h₃ h₄ q) =
-    rw ((division s ns h).1 d, (question2_means ns).1 h₂, (question3_means ns).1 h₃, (question4_means (job_from ns)).1 h₄, refuted (question5_means (job_from ns)) q)
+    rw (
+      (division s ns h).1 d,
+      (question2_means ns).1 h₂,
+      (question3_means ns).1 h₃,
+      (question4_means (job_from ns)).1 h₄,
+      refuted (question5_means (job_from ns)) q,
+    )
 first_no_unique s r h (no6 ns f q) =
     rw (
       (division s ns h).1 f.divides,

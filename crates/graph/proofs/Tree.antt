@@ -217,7 +217,8 @@ module _ (g : Graph) (ranks : List ℕ) (k : ℕ) where
   touches_first = rw (eq-eqb (g.end₁ (get_or ranks k 0)) (g.end₁ (get_or ranks k 0)) refl)
 
   touches_second : touches g ranks (g.end₂ (get_or ranks k 0)) k ≡ true
-  touches_second = rw (eq-eqb (g.end₂ (get_or ranks k 0)) (g.end₂ (get_or ranks k 0)) refl) (or-true (eqb (g.end₁ (get_or ranks k 0)) (g.end₂ (get_or ranks k 0))))
+  touches_second = rw (eq-eqb (g.end₂ (get_or ranks k 0)) (g.end₂ (get_or ranks k 0)) refl)
+      (or-true (eqb (g.end₁ (get_or ranks k 0)) (g.end₂ (get_or ranks k 0))))
 
 module _ {g : Graph} (sound : Sound g) {tr : EdgeSet} {ranks : List ℕ} (lists : Lists g.edges tr ranks) where
   grown_expand : (v : ℕ) (st : Rooted) → Grown g tr ranks st → Grown g tr ranks (expand g ranks v st)

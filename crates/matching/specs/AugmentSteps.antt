@@ -11,7 +11,8 @@ use Rattle.bits.specs.ChangeLaws.{added}
 use Rattle.goals.specs.Over.{next_over}
 use Rattle.goals.specs.OverLaws.{over_is, over_common}
 use Rattle.graph.specs.Rank.{cost_at}
-use Rattle.optimum.specs.Search.{Problem, Mates, Slots, mates_in, Search, search, turn, Progress, cheapest_of, hit_of, goal_of, worth, turned, given_up, augment_by}
+use Rattle.optimum.specs.Search.{Problem, Mates, Slots, mates_in, Search, search, turn, Progress, cheapest_of, hit_of, goal_of}
+use Rattle.optimum.specs.Search.{worth, turned, given_up, augment_by}
 use Rattle.optimum.specs.Search.{augment, built}
 use Rattle.optimum.specs.Slackness.{Ranked, Valid}
 use Rattle.optimum.proofs.SlotLaws.{HeldSlots, slot_below}

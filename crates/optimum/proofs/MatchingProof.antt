@@ -115,7 +115,8 @@ module _ (p : Problem) (mates : Mates) (d : ℕ → ℕ) (g : Pairs p p.trees ma
       covered t s l c u (inl m) = absurd (u m.0 m.1 m.2)
       covered t s l c u (inr f) = f s l c
 
-      feasible : (t s : ℕ) → t < p.trees → s < p.spares → p.covers t s ≡ true → (w : Matched p mates t ⊎ Unmatched p mates t) → tree_cost_lem p mates d t w ≤ d s
+      feasible : (t s : ℕ) → t < p.trees → s < p.spares → p.covers t s ≡ true → (w : Matched p mates t ⊎ Unmatched p mates t)
+          → tree_cost_lem p mates d t w ≤ d s
       feasible t s k l c (inl m) = g.feasible m.0 s t m.1 l m.2 c
       feasible t s k l c (inr u) = covered t s l c u (done t k)
 

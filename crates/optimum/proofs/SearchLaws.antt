@@ -94,7 +94,8 @@ module _ (p : Problem) (q : Slots) (ends : ℕ → Bool) where
         let u : ℕ = q.tree_of k in
         let next : Search = enter ends (try_tree p q ends turns) u (reach t k u st) in
         let less : count q.slots (put st.live k false) ≤ turns = omega (arith, rw v at (count_put q.slots st.live k false l)) in
-        let first : Closed p q u (reach t k u st) next = enter_closed (try_tree p q ends turns) u (reach t k u st) (tree_closed turns u (reach t k u st) less) in
+        let first : Closed p q u (reach t k u st) next =
+        enter_closed (try_tree p q ends turns) u (reach t k u st) (tree_closed turns u (reach t k u st) less) in
         let within = count_within q.slots next.live (put st.live k false) (λ j _. first.falls j) in
         let fewer : count q.slots next.live ≤ turns = omega arith in
         rw (lt-ltb k q.slots l) (closed_both t k st next (try_tree p q ends turns t next) first (tree_closed turns t next fewer))

@@ -1,1 +1,3 @@
 pub mod RecordsLaws
+pub mod LinkRows
+pub mod Told

@@ -134,7 +134,8 @@ module _ {s : List ℕ} {h : Header} {a : Arrays} (k : Asked s h a) (f area : Li
             j : Job
             j = job_of s
 
-            same : ◌≡◌ {A = ℕ → Bool} asked (λ i. judge (graph_of j) (tree_of j) (replayed (take i qs) (cost_of j)) (tree_ranks (graph_of j) (tree_of j) (cost_of j)))
+            same : ◌≡◌ {A = ℕ → Bool} asked (λ i. judge (graph_of j) (tree_of j) (replayed (take i qs) (cost_of j))
+                (tree_ranks (graph_of j) (tree_of j) (cost_of j)))
             same =
                 (λ i n. none_at counted (replayed (take n qs) (old i)))
                 ∙ fun_ext (λ n. cheapest_held (k.held z) (replayed (take n qs) (cost_of j)))

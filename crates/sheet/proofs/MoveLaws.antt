@@ -160,7 +160,8 @@ move_sum_lem m c d =
 
 pub entries_append : (ks ls : List Move) → entries_bytes (ks ++ ls) ≡ entries_bytes ks ++ entries_bytes ls
 entries_append ks ls =
-    ap (bytes_by change_bytes) (flat_map_append move_numbers ks ls) ∙ flat_map_append (encode change_bytes) (flat_map move_numbers ks) (flat_map move_numbers ls)
+    ap (bytes_by change_bytes) (flat_map_append move_numbers ks ls)
+    ∙ flat_map_append (encode change_bytes) (flat_map move_numbers ks) (flat_map move_numbers ls)
 
 -- Entries of links below 16,384 take at most six bytes each: a link two, a code four.
 entries_each : (ks : List Move) → ((k : Move) → Memᴰ k ks → k.edge < 16384) → length (entries_bytes ks) ≤ 6 * length ks

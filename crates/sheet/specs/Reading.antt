@@ -1,5 +1,6 @@
 -- How the costs going in and the sheets going in are read, as functions that compute. Definitions only. Assumes nothing.
-use Rattle.std.specs.Prelude.{ℕ, zero, suc, ◌+◌, ◌/◌, ◌%◌, Bool, true, false, cond, not, ◌&&◌, List, [], ◌∷◌, leb, ltb, eqb, ℤ, pos, negsuc, ◌+ℤ◌, length, get_or, drop}
+use Rattle.std.specs.Prelude.{ℕ, zero, suc, ◌+◌, ◌/◌, ◌%◌, Bool, true, false, cond, not, ◌&&◌, List, [], ◌∷◌, leb, ltb, eqb, ℤ}
+use Rattle.std.specs.Prelude.{pos, negsuc, ◌+ℤ◌, length, get_or, drop}
 use Rattle.std.proofs.Math.Option.{Option, some, none, map}
 use Rattle.limits.specs.Limits.{max_number, change_bytes}
 use Rattle.loops.specs.Below.{choose}

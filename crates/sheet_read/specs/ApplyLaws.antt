@@ -141,7 +141,8 @@ module _ (m : ℕ) (c : ℕ → ℕ) (s : List ℕ) where
   unfolding behind_count
   no_count e = rw (located_refused 0 (decode change_bytes s) e)
 
-  pub count_read : (n behind : ℕ) → read_at change_bytes s 0 ≡ Read.Value n behind → (behind ≤ length s) × (apply_from m n 0 c (drop behind s) ≡ apply_sheet m c s)
+  pub count_read : (n behind : ℕ) → read_at change_bytes s 0 ≡ Read.Value n behind
+      → (behind ≤ length s) × (apply_from m n 0 c (drop behind s) ≡ apply_sheet m c s)
   unfolding behind_count
   count_read n behind e =
       let (k, here, there) = located_value 0 (decode change_bytes s) n behind e in
@@ -183,7 +184,8 @@ module _ (m left least : ℕ) (c : ℕ → ℕ) (s : List ℕ) (at : ℕ) (whole
           let (k, here, there) = entered_moved at (entry_of (drop at s)) e z next q in
           rw (here, may, outside_none (cost_from (pos (c e) +ℤ change_from z)) o) at next_entry
 
-      pub apply_turn : (v : ℕ) → Inside v ≡ in_range (cost_from (pos (c e) +ℤ change_from z)) → apply_from m (left - 1) (e + 1) (put c e v) (drop next s) ≡ whole
+      pub apply_turn : (v : ℕ) → Inside v ≡ in_range (cost_from (pos (c e) +ℤ change_from z))
+          → apply_from m (left - 1) (e + 1) (put c e v) (drop next s) ≡ whole
       unfolding move_by move_to
       apply_turn v o =
           let (k, here, there) = entered_moved at (entry_of (drop at s)) e z next q in

@@ -56,7 +56,8 @@ module _ (c d : ℕ → ℕ) where
         unfolding flat_map
         moves_bytes =
             ap entries_bytes one ∙ entries_append (moves_of e c d) _ ∙
-            rw (← is, append-nil (encode change_bytes code)) (sym (append_assoc (entries_bytes (moves_of e c d)) (encode change_bytes e) (encode change_bytes code)))
+            rw (← is, append-nil (encode change_bytes code))
+            (sym (append_assoc (entries_bytes (moves_of e c d)) (encode change_bytes e) (encode change_bytes code)))
 
         pub moves_size :
             length (entries_bytes (moves_of (e + 1) c d))

@@ -1,7 +1,8 @@
 -- Digits counted and laid out from the last one, as a printer makes them that measures a number first, are those of the
 -- definition; and bytes copied to what is left of a buffer are stores. Assumes nothing.
-use Rattle.std.specs.Prelude.{ℕ, zero, suc, ◌+◌, ◌/◌, ◌%◌, ◌^◌, ◌*◌, ◌-◌, ◌≤◌, ◌<◌, ◌≡◌, refl, cond, ltb, List, [], ◌∷◌, ◌++◌, length, take, drop}
-use Rattle.std.proofs.Common.{arith, mod-eq_of_lt, mod-lt, pow-suc, sym, ap, ap₂, ◌∙◌, append_assoc, append-nil, length-drop, drop_of_length-le, take_all, drop-drop, lt-ltb, le-ltb}
+use Rattle.std.specs.Prelude.{ℕ, zero, suc, ◌+◌, ◌/◌, ◌%◌, ◌^◌, ◌-◌, ◌≤◌, ◌<◌, ◌≡◌, cond, ltb, List, [], ◌∷◌, ◌++◌, length, take, drop}
+use Rattle.std.proofs.Common.{arith, mod-eq_of_lt, mod-lt, pow-suc, sym, ap, ap₂, ◌∙◌, append_assoc, append-nil, length-drop}
+use Rattle.std.proofs.Common.{drop_of_length-le, take_all, drop-drop, lt-ltb, le-ltb}
 use Rattle.std.proofs.Math.Decide.{dec_le}
 use Rattle.std.proofs.lemmas.List.Edits.{sets, sets-eq}
 use Rattle.std.proofs.Math.Seq.{take-length}

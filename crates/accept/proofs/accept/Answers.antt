@@ -1,7 +1,6 @@
 -- `accept::accept` meets its contract: the frame is asked questions 1 to 3, then the arrays the others. Assumes nothing.
 use mathlib.Core.Path.{◌∙◌}
 use Rattle.frame.specs.Arrays.{columns, arrays}
-use Rattle.held.specs.Held.{Stored}
 use Rattle.accept.specs.AcceptLaws.{layout_zero, accept_refused, header_nodes, header_edges, job_refused, job_accepted}
 use Rattle.accept.specs.ArrayLaws.{stored}
 use Rattle.accept.proofs.accept.Goals as goal
@@ -16,9 +15,11 @@ job_refusal-wrong-requires-clause-stored c =
     let a = c.args in (
       _,
       stored a.frame.now (arrays a.end1.now a.end2.now a.cost.now a.mark.now a.ts.now a.mask.now)
-          (columns c.load_job-header.new.end1 c.load_job-header.new.end2 c.load_job-header.new.cost c.load_job-header.new.mark) c.load_job-header.result.nodes c.load_job-header.result.edges
+          (columns c.load_job-header.new.end1 c.load_job-header.new.end2 c.load_job-header.new.cost c.load_job-header.new.mark)
+          c.load_job-header.result.nodes c.load_job-header.result.edges
           (λ i. (c.type_inv.frame i).fits) (layout_zero a.frame.now c.load_job-header.result c.load_job-header.ensures.header c.if-refusal-ne0.false)
-          c.requires (c.load_job-header.ensures.links c.if-refusal-ne0.false) (header_nodes a.frame.now c.load_job-header.result c.load_job-header.ensures.header c.if-refusal-ne0.false)
+          c.requires (c.load_job-header.ensures.links c.if-refusal-ne0.false)
+          (header_nodes a.frame.now c.load_job-header.result c.load_job-header.ensures.header c.if-refusal-ne0.false)
           (header_edges a.frame.now c.load_job-header.result c.load_job-header.ensures.header c.if-refusal-ne0.false),
     )
 
@@ -28,9 +29,11 @@ returns-then-wrong-ne0-clause-header c =
     c.refused_header.ensures ∙ job_refused a.frame.now c.load_job-header.result c.load_job-header.ensures.header c.if-refusal-ne0.false
     c.job_refusal-wrong.result
     (c.job_refusal-wrong.ensures.refusal _ (stored a.frame.now (arrays a.end1.now a.end2.now a.cost.now a.mark.now a.ts.now a.mask.now)
-    (columns c.load_job-header.new.end1 c.load_job-header.new.end2 c.load_job-header.new.cost c.load_job-header.new.mark) c.load_job-header.result.nodes c.load_job-header.result.edges
+    (columns c.load_job-header.new.end1 c.load_job-header.new.end2 c.load_job-header.new.cost c.load_job-header.new.mark)
+    c.load_job-header.result.nodes c.load_job-header.result.edges
     (λ i. (c.type_inv.frame i).fits) (layout_zero a.frame.now c.load_job-header.result c.load_job-header.ensures.header c.if-refusal-ne0.false)
-    c.requires (c.load_job-header.ensures.links c.if-refusal-ne0.false) (header_nodes a.frame.now c.load_job-header.result c.load_job-header.ensures.header c.if-refusal-ne0.false)
+    c.requires (c.load_job-header.ensures.links c.if-refusal-ne0.false)
+    (header_nodes a.frame.now c.load_job-header.result c.load_job-header.ensures.header c.if-refusal-ne0.false)
     (header_edges a.frame.now c.load_job-header.result c.load_job-header.ensures.header c.if-refusal-ne0.false)))
     c.if-wrong-ne0.true
 
@@ -40,9 +43,11 @@ returns-clause-header c =
     job_accepted a.frame.now c.load_job-header.result c.load_job-header.ensures.header c.if-refusal-ne0.false
     c.job_refusal-wrong.result
     (c.job_refusal-wrong.ensures.refusal _ (stored a.frame.now (arrays a.end1.now a.end2.now a.cost.now a.mark.now a.ts.now a.mask.now)
-    (columns c.load_job-header.new.end1 c.load_job-header.new.end2 c.load_job-header.new.cost c.load_job-header.new.mark) c.load_job-header.result.nodes c.load_job-header.result.edges
+    (columns c.load_job-header.new.end1 c.load_job-header.new.end2 c.load_job-header.new.cost c.load_job-header.new.mark)
+    c.load_job-header.result.nodes c.load_job-header.result.edges
     (λ i. (c.type_inv.frame i).fits) (layout_zero a.frame.now c.load_job-header.result c.load_job-header.ensures.header c.if-refusal-ne0.false)
-    c.requires (c.load_job-header.ensures.links c.if-refusal-ne0.false) (header_nodes a.frame.now c.load_job-header.result c.load_job-header.ensures.header c.if-refusal-ne0.false)
+    c.requires (c.load_job-header.ensures.links c.if-refusal-ne0.false)
+    (header_nodes a.frame.now c.load_job-header.result c.load_job-header.ensures.header c.if-refusal-ne0.false)
     (header_edges a.frame.now c.load_job-header.result c.load_job-header.ensures.header c.if-refusal-ne0.false)))
     c.if-wrong-ne0.false
 
@@ -50,8 +55,10 @@ pub returns-clause-job : goal.returns-clause-job
 returns-clause-job c =
     let a = c.args in
     λ _. c.job_refusal-wrong.ensures.held _ (stored a.frame.now (arrays a.end1.now a.end2.now a.cost.now a.mark.now a.ts.now a.mask.now)
-    (columns c.load_job-header.new.end1 c.load_job-header.new.end2 c.load_job-header.new.cost c.load_job-header.new.mark) c.load_job-header.result.nodes c.load_job-header.result.edges
+    (columns c.load_job-header.new.end1 c.load_job-header.new.end2 c.load_job-header.new.cost c.load_job-header.new.mark)
+    c.load_job-header.result.nodes c.load_job-header.result.edges
     (λ i. (c.type_inv.frame i).fits) (layout_zero a.frame.now c.load_job-header.result c.load_job-header.ensures.header c.if-refusal-ne0.false)
-    c.requires (c.load_job-header.ensures.links c.if-refusal-ne0.false) (header_nodes a.frame.now c.load_job-header.result c.load_job-header.ensures.header c.if-refusal-ne0.false)
+    c.requires (c.load_job-header.ensures.links c.if-refusal-ne0.false)
+    (header_nodes a.frame.now c.load_job-header.result c.load_job-header.ensures.header c.if-refusal-ne0.false)
     (header_edges a.frame.now c.load_job-header.result c.load_job-header.ensures.header c.if-refusal-ne0.false))
     c.if-wrong-ne0.false

@@ -63,7 +63,8 @@ write_numbers-requires-clause-values_in_bounds c =
     record { next = w.ensures.next; area = w.ensures.area } in
     let costs : Put a.area.now a.at (encode step_bytes a.steps ++ bytes_of (numbers_at a.edges a.costs.now)) x.result x.new.area =
     put_more _ _ _ _ _ _ _ _ steps x.ensures.next x.ensures.area in
-    let count : Put a.area.now a.at ((encode step_bytes a.steps ++ bytes_of (numbers_at a.edges a.costs.now)) ++ encode number_bytes a.count) y.result y.new.area =
+    let count : Put a.area.now a.at ((encode step_bytes a.steps ++ bytes_of (numbers_at a.edges a.costs.now)) ++ encode number_bytes
+    a.count) y.result y.new.area =
     put_more _ _ _ _ _ _ _ _ costs y.ensures.next y.ensures.area in
     put_room _ _ _ _ _ _ count
     (simp length-append (omega (arith, room a.steps a.edges a.costs.now a.count a.pairs.now _ _ c.requires.pairs_in_bounds)))
@@ -79,7 +80,8 @@ returns c =
     record { next = w.ensures.next; area = w.ensures.area } in
     let costs : Put a.area.now a.at (encode step_bytes a.steps ++ bytes_of (numbers_at a.edges a.costs.now)) x.result x.new.area =
     put_more _ _ _ _ _ _ _ _ steps x.ensures.next x.ensures.area in
-    let count : Put a.area.now a.at ((encode step_bytes a.steps ++ bytes_of (numbers_at a.edges a.costs.now)) ++ encode number_bytes a.count) y.result y.new.area =
+    let count : Put a.area.now a.at ((encode step_bytes a.steps ++ bytes_of (numbers_at a.edges a.costs.now)) ++ encode number_bytes
+    a.count) y.result y.new.area =
     put_more _ _ _ _ _ _ _ _ costs y.ensures.next y.ensures.area in
     subst (λ (bytes : List ℕ). Put a.area.now a.at bytes z.result z.new.area)
     (answer_bytes a.steps a.edges a.costs.now a.count a.pairs.now)

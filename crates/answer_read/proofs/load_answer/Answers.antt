@@ -1,14 +1,13 @@
 -- `answer_read::load_answer` meets its contract: each return is a case of the model, by the steps that led there.
 -- Assumes nothing.
-use Prim.Native.Nat.{ℕ, ◌-◌, ◌<◌, ◌^◌}
+use Prim.Native.Nat.{ℕ, ◌-◌}
 use native.Mathlib.Omega.{arith}
 use mathlib.Core.Path.{◌≡◌, sym, ◌∙◌}
 use mathlib.Core.List.{List}
-use lib.ListN.{length, take, drop, length-drop, get_or}
+use lib.ListN.{length, take, drop, length-drop}
 use lib.Seq.{take_all}
-use Rattle.number.specs.Number.{Bytes}
 use Rattle.answer_read.specs.AnswerLaws.{steps_within, answer_unread, answer_undivided, read_short, answer_many}
-use Rattle.answer_read.specs.AnswerLaws.{answer_wrong, answer_read_lem, answer_kept, no_answer, costs_divided, pairs_divided}
+use Rattle.answer_read.specs.AnswerLaws.{answer_wrong, answer_read_lem, answer_kept, no_answer_lem, costs_divided, pairs_divided}
 use Rattle.answer_read.proofs.load_answer.Goals as goal
 
 -- the part behind the steps
@@ -20,7 +19,7 @@ part_is s n = take_all (length s - n) (drop n s) (omega (arith, length-drop n s)
 
 pub returns-in_default-clause-answer : goal.returns-in_default-clause-answer
 returns-in_default-clause-answer c =
-    (no_answer _ _ _ _ _ {Kept = ℕ} c.no_contents.ensures (answer_unread _ _ (sym c.read_long-first.ensures ∙ c.in_default.is))).0
+    (no_answer_lem _ _ _ _ _ {Kept = ℕ} c.no_contents.ensures (answer_unread _ _ (sym c.read_long-first.ensures ∙ c.in_default.is))).0
 
 pub slice_bounds-part-count : goal.slice_bounds-part-count
 slice_bounds-part-count c = steps_within _ _ _ (sym c.read_long-first.ensures ∙ c.in-Value.is)
@@ -30,14 +29,14 @@ slice_bounds-part-start c = steps_within _ _ _ (sym c.read_long-first.ensures �
 
 pub returns-in_default-numbers-clause-answer : goal.returns-in_default-numbers-clause-answer
 returns-in_default-numbers-clause-answer c =
-    (no_answer _ _ _ _ _ {Kept = ℕ} c.no_contents-in_default-numbers.ensures
+    (no_answer_lem _ _ _ _ _ {Kept = ℕ} c.no_contents-in_default-numbers.ensures
     (answer_undivided _ _ (λ i. (c.type_inv.frame i).fits) _ _ (sym c.read_long-first.ensures ∙ c.in-Value.is)
     (part_of c.args.frame.now c.in-Value.behind) (part_is c.args.frame.now c.in-Value.behind)
     (sym c.count_numbers-numbers.ensures ∙ c.in_default-numbers.is))).0
 
 pub returns-then-total-edges-clause-answer : goal.returns-then-total-edges-clause-answer
 returns-then-total-edges-clause-answer c =
-    (no_answer _ _ _ _ _ {Kept = ℕ} c.no_contents-then-total-edges.ensures
+    (no_answer_lem _ _ _ _ _ {Kept = ℕ} c.no_contents-then-total-edges.ensures
     (read_short _ _ (λ i. (c.type_inv.frame i).fits) _ _ (sym c.read_long-first.ensures ∙ c.in-Value.is)
     (part_of c.args.frame.now c.in-Value.behind) (part_is c.args.frame.now c.in-Value.behind) _
     (sym c.count_numbers-numbers.ensures ∙ c.in-Count.is)
@@ -52,7 +51,7 @@ read_numbers-at-requires-clause-numbers c =
 
 pub returns-then-many-gt64-clause-answer : goal.returns-then-many-gt64-clause-answer
 returns-then-many-gt64-clause-answer c =
-    (no_answer _ _ _ _ _ {Kept = ℕ} c.no_contents-then-many-gt64.ensures
+    (no_answer_lem _ _ _ _ _ {Kept = ℕ} c.no_contents-then-many-gt64.ensures
     (answer_many _ _ (λ i. (c.type_inv.frame i).fits) _ _ (sym c.read_long-first.ensures ∙ c.in-Value.is)
     (part_of c.args.frame.now c.in-Value.behind) (part_is c.args.frame.now c.in-Value.behind) _
     (sym c.count_numbers-numbers.ensures ∙ c.in-Count.is)
@@ -60,7 +59,7 @@ returns-then-many-gt64-clause-answer c =
 
 pub returns-then-total-edges-2-clause-answer : goal.returns-then-total-edges-2-clause-answer
 returns-then-total-edges-2-clause-answer c =
-    (no_answer _ _ _ _ _ {Kept = ℕ} c.no_contents-then-total-edges-2.ensures
+    (no_answer_lem _ _ _ _ _ {Kept = ℕ} c.no_contents-then-total-edges-2.ensures
     (answer_wrong _ _ (λ i. (c.type_inv.frame i).fits) _ _ (sym c.read_long-first.ensures ∙ c.in-Value.is)
     (part_of c.args.frame.now c.in-Value.behind) (part_is c.args.frame.now c.in-Value.behind) _
     (sym c.count_numbers-numbers.ensures ∙ c.in-Count.is)

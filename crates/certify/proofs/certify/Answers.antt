@@ -1,6 +1,6 @@
 -- `certify::certify` meets its contract: the frame is read, then the tests are made in turn. Assumes nothing.
 use Prim.Native.Nat.{ℕ, ◌-◌}
-use mathlib.Core.Path.{◌≡◌, sym, ap, ◌∙◌}
+use mathlib.Core.Path.{sym, ap, ◌∙◌}
 use borrow.Author.Tests.{not-true, not-false}
 use lib.Dec.{eqb}
 use Rattle.frame.specs.Arrays.{arrays}
@@ -13,7 +13,8 @@ use Rattle.certify.proofs.certify.Goals as goal
 pub returns-then-not-found : goal.returns-then-not-found
 returns-then-not-found c =
     let a = c.args in
-    λ j h. sym (verdict_unread j a.nodes a.edges (arrays a.end1.now a.end2.now a.cost.now a.mark.now a.ts.now a.mask.now) h a.frame.now c.load_answer-found.result
+    λ j h. sym (verdict_unread j a.nodes a.edges (arrays a.end1.now a.end2.now a.cost.now a.mark.now a.ts.now a.mask.now) h a.frame.now
+    c.load_answer-found.result
     c.load_answer-found.new.costs c.load_answer-found.new.pairs c.load_answer-found.ensures.answer (not-true _ c.if-not-found.true))
 
 pub returns-then-steps : goal.returns-then-steps
@@ -58,7 +59,8 @@ returns-then-not-pairs_rise c =
 pub pairs_weight-requires : goal.pairs_weight-requires
 pairs_weight-requires c =
     let a = c.args in
-    held_falling a.edges (a.nodes - 1) (arrays a.end1.now a.end2.now a.cost.now a.mark.now a.ts.now a.mask.now) c.load_answer-found.result.count c.load_answer-found.new.pairs
+    held_falling a.edges (a.nodes - 1) (arrays a.end1.now a.end2.now a.cost.now a.mark.now a.ts.now a.mask.now)
+    c.load_answer-found.result.count c.load_answer-found.new.pairs
     (few_links c.requires.1) c.load_answer-found.ensures.count (sym c.pairs_hold.ensures ∙ c.if-not-pairs_hold.false)
 
 pub returns : goal.returns

@@ -12,7 +12,7 @@ use Rattle.cheapest.specs.Judge.{affords}
 use Rattle.cheapest.specs.LeadLaws.{lead_tells}
 use Rattle.cheapest.specs.JudgeLaws.{word_miss, word_turn, word_end}
 use Rattle.cheapest.proofs.spare_holds.Goals as goal
-use Rattle.cheapest.proofs.spare_holds.Goals.{After-cost_at, Start}
+use Rattle.cheapest.proofs.spare_holds.Goals.{Start}
 
 -- a rank costs no more than the spare
 abbrev afforded : Start → ℕ → Bool

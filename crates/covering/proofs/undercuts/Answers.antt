@@ -5,7 +5,7 @@ use lib.ListN.{get_or}
 use Rattle.paths.specs.WordLaws.{lowest_below}
 use Rattle.covering.proofs.LowLaws.{none_dearer, none_covered, lowest_edge, lowest_tells}
 use Rattle.covering.proofs.undercuts.Goals as goal
-use Rattle.covering.proofs.undercuts.Goals.{After-covered-over, After-lowest, Start}
+use Rattle.covering.proofs.undercuts.Goals.{After-lowest}
 
 -- the lowest rank that is covered, and its edge
 some : (c : After-lowest) → 0 < c.covered-over.result

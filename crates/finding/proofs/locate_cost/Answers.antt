@@ -1,8 +1,5 @@
 -- `finding::locate_cost` meets its contract: the frame is asked the six questions, and its job's arrays are handed on.
 -- Assumes nothing.
-use Rattle.frame.specs.Arrays.{arrays}
-use Rattle.accept.specs.Accepting.{Asked}
-use borrow.Author.Rules.{rules}
 use Rattle.finding.proofs.locate_cost.Goals as goal
 
 pub locate_cost_held-requires : goal.locate_cost_held-requires

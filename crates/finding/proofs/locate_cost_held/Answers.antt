@@ -1,7 +1,7 @@
 -- `finding::locate_cost_held` meets its contract: a refused job has no links, and an answer that is judged yes has the new
 -- cost of each. Assumes nothing.
 use native.Mathlib.Omega.{arith}
-use mathlib.Core.Path.{◌≡◌, sym, ◌∙◌}
+use mathlib.Core.Path.{sym, ◌∙◌}
 use Rattle.accept.specs.AskedLaws.{asked_number, asked_edges, held_asked}
 use Rattle.judging.proofs.VerdictLaws.{yes_accepted}
 use Rattle.finding.specs.PartLaws.{cost_unlinked, cost_in, cost_handed}

@@ -1,7 +1,6 @@
 -- `finding::locate_link` meets its contract: the finder's core is handed what the six questions said.
 -- Assumes nothing.
 use Rattle.finding.specs.PartLaws.{header_read, link_located}
-use borrow.Author.Rules.{rules}
 use Rattle.finding.proofs.locate_link.Goals as goal
 
 pub link_part-requires : goal.link_part-requires

@@ -1,5 +1,4 @@
 -- `ist_finders::find_link` meets its contract: offset and length are those of the part. Assumes nothing.
-use borrow.Author.Rules.{rules}
 use Rattle.ist_finders.proofs.find_link.Goals as goal
 
 pub returns : goal.returns

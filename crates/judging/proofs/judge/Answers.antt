@@ -1,7 +1,4 @@
 -- `judging::judge` meets its contract: the frame is asked the six questions, and its job judged. Assumes nothing.
-use Rattle.frame.specs.Arrays.{arrays}
-use Rattle.accept.specs.Accepting.{Asked}
-use borrow.Author.Rules.{rules}
 use Rattle.judging.proofs.judge.Goals as goal
 
 pub judge_held-requires : goal.judge_held-requires

@@ -1,7 +1,4 @@
 -- `judging::judge_answer` meets its contract: the frame is asked the six questions, and the offered frame judged. Assumes nothing.
-use Rattle.frame.specs.Arrays.{arrays}
-use Rattle.accept.specs.Accepting.{Asked}
-use borrow.Author.Rules.{rules}
 use Rattle.judging.proofs.judge_answer.Goals as goal
 
 pub judge_answer_held-requires : goal.judge_answer_held-requires

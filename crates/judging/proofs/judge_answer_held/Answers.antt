@@ -2,18 +2,19 @@
 -- answers asks for, and the word is the definition's. Assumes nothing.
 use mathlib.Core.Path.{refl, sym, ◌∙◌}
 use mathlib.Core.Bool.{true, false}
-use borrow.Author.Tests.{not-true, not-false}
-use Rattle.number.specs.Number.{Bytes}
 use Rattle.frame.specs.Questions.{job_of, refusal}
 use Rattle.frame.specs.Answers.{judge_answer}
 use Rattle.accept.specs.AskedLaws.{asked_number}
 use Rattle.judging.proofs.VerdictLaws.{answer_judged_of, verdict_refused, verdict_word}
-use borrow.Author.Rules.{rules}
 use Rattle.judging.proofs.judge_answer_held.Goals as goal
 
 pub returns-then-first-ne0 : goal.returns-then-first-ne0
 returns-then-first-ne0 c =
-    record { judged = λ s k. answer_judged_of s k.bytes _ (λ i. (c.type_inv.offered i).fits) _ (verdict_refused (refusal s) _ _ (asked_number k) c.if-first-ne0.true); refused = λ _. refl }
+    record {
+      judged = λ s k. answer_judged_of s k.bytes _ (λ i. (c.type_inv.offered i).fits) _
+          (verdict_refused (refusal s) _ _ (asked_number k) c.if-first-ne0.true);
+      refused = λ _. refl;
+    }
 
 pub certify-requires : goal.certify-requires
 certify-requires c =

@@ -8,7 +8,6 @@ use Rattle.held.specs.HeldLaws.{some_node, paths_held}
 use Rattle.certify.specs.JudgedLaws.{judged_held, falls_held, judge_held}
 use Rattle.accept.specs.AskedLaws.{asked_number}
 use Rattle.judging.proofs.VerdictLaws.{tree_judged_of, verdict_refused, verdict_word}
-use borrow.Author.Rules.{rules}
 use Rattle.judging.proofs.judge_held.Goals as goal
 
 pub returns-then-refusal-ne0 : goal.returns-then-refusal-ne0

@@ -2,7 +2,6 @@
 use Rattle.std.proofs.Common.{◌+◌, arith}
 use Rattle.leb128.proofs.Steps.{some_byte, read_last, read_bound, known_first, known_rest, known_value}
 use Rattle.leb128.proofs.read_known.Goals as goal
-use Rattle.leb128.proofs.read_known.Goals.{After-known_two-rest}
 
 pub bounds-bytes-at : goal.bounds-bytes-at
 bounds-bytes-at c = known_first 3 c.args.bytes.now c.args.at (some_byte 2) c.requires

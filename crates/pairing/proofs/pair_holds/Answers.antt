@@ -1,8 +1,6 @@
 -- `pairing::pair_holds` meets its contract: the tests in turn. Assumes nothing.
-use borrow.Author.Rules.{rules}
 use native.Mathlib.Omega.{arith}
 use mathlib.Core.Path.{sym}
-use borrow.Author.Tests.{not-true, not-false}
 use Rattle.frame.specs.Arrays.{arrays}
 use Rattle.pairing.specs.PairLaws.{tree_past, tree_unmarked, spare_past, spare_other, spare_apart, pair_dearer}
 use Rattle.pairing.proofs.pair_holds.Goals as goal

@@ -1,14 +1,13 @@
 -- `pairing::pairs_hold` meets its contract. The loop's invariant: the pairs passed hold. Assumes nothing.
-use Prim.Native.Nat.{ℕ, ◌-◌, ◌≤◌}
+use Prim.Native.Nat.{◌-◌}
 use native.Mathlib.Omega.{arith}
 use mathlib.Core.Path.{◌≡◌, refl, sym, ◌∙◌}
-use mathlib.Core.Bool.{Bool, true}
-use borrow.Author.Tests.{not-true, not-false}
+use mathlib.Core.Bool.{true}
 use Rattle.loops.specs.Below.{all_below}
 use Rattle.loops.specs.TestLaws.{all_miss, all_more}
 use Rattle.frame.specs.Arrays.{arrays}
 use Rattle.frame.specs.Answers.{pair_from}
-use Rattle.pairing.specs.Pairs.{pair_held, pairs_held}
+use Rattle.pairing.specs.Pairs.{pair_held}
 use Rattle.pairing.proofs.pairs_hold.Goals as goal
 
 pub loop-i-init : goal.loop-i-init

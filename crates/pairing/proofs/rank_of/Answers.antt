@@ -1,7 +1,7 @@
 -- `pairing::rank_of` meets its contract. The loop's invariant: the edge is at none of the ranks passed. Assumes nothing.
-use Prim.Native.Nat.{◌-◌, ◌≤◌}
+use Prim.Native.Nat.{◌-◌}
 use native.Mathlib.Omega.{arith}
-use Rattle.pairing.specs.PairLaws.{Missed, missed_more, rank_found, rank_none}
+use Rattle.pairing.specs.PairLaws.{missed_more, rank_found, rank_none}
 use Rattle.pairing.proofs.rank_of.Goals as goal
 
 pub loop-k-init : goal.loop-k-init

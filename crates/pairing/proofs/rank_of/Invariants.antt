@@ -1,7 +1,6 @@
 -- `pairing::rank_of` meets its contract. The loop's invariant: the edge is at none of the ranks passed. Assumes nothing.
 use Prim.Native.Nat.{◌-◌, ◌≤◌}
-use native.Mathlib.Omega.{arith}
-use Rattle.pairing.specs.PairLaws.{Missed, missed_more, rank_found, rank_none}
+use Rattle.pairing.specs.PairLaws.{Missed}
 use Rattle.pairing.proofs.rank_of.Given as goal
 
 abbrev pub invariant-loop-k : goal.invariant-loop-k

@@ -10,7 +10,8 @@ use Rattle.violations.specs.CountingLaws.{next_within, violations_few}
 use Rattle.violations.specs.StepLaws.{countable_joins, across_edge, step_risen, step_fallen, tree_below}
 use Rattle.violations.specs.StepLaws.{tree_higher, tree_lower, spare_higher, spare_lower, idle_step}
 use Rattle.violations.proofs.after_step.Goals as goal
-use Rattle.violations.proofs.after_step.Goals.{After-lowest-k, After-ranks_within, After-ranks_within-then-is_spare, After-spares_at, After-spares_at-then-is_tree, Start, Then-is_spare}
+use Rattle.violations.proofs.after_step.Goals.{After-lowest-k, After-ranks_within, After-ranks_within-then-is_spare}
+use Rattle.violations.proofs.after_step.Goals.{After-spares_at, After-spares_at-then-is_tree, Start}
 
 -- the violations after the step are few
 after_few : (s : Start) →

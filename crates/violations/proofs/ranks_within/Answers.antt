@@ -9,7 +9,7 @@ use Rattle.paths.specs.WordLaws.{lowest_below, lowest_set, word_part, word_less}
 use Rattle.violations.specs.Counting.{costs_within}
 use Rattle.violations.specs.CountingLaws.{ones_word, ones_end, turn_yes, turn_no}
 use Rattle.violations.proofs.ranks_within.Goals as goal
-use Rattle.violations.proofs.ranks_within.Goals.{At-loop-left, Start, else-is_within, then-is_within}
+use Rattle.violations.proofs.ranks_within.Goals.{Start, else-is_within, then-is_within}
 
 -- the cost of a rank passes
 abbrev priced : Start → (ℕ → Bool) → ℕ → Bool
