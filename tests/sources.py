@@ -1,6 +1,6 @@
 #!/usr/bin/env python3
 """The sources keep the house's habits: no line above 160 characters; every name that a `use` line takes from elsewhere is used;
-no public name of the specs is defined twice. Ends in OK."""
+no public name of the definitions and theorems is defined twice. Ends in OK."""
 import collections
 import pathlib
 import re
@@ -9,6 +9,8 @@ import sys
 ROOT = pathlib.Path(__file__).resolve().parent.parent
 CRATES = ROOT / "crates"
 WIDTH = 160
+# Files of proofs/ that only serve proofs of code; the others there hold theorems, as those of specs/ do.
+HELPERS = {"Lib", "Steps", "LinkRows", "Told", "Lent", "WriteEntry"}
 USE = re.compile(r"\s*(?:ghost )?use [^{;]+\.\{(.*)\}")
 
 
@@ -36,7 +38,7 @@ def unused(source):
 
 
 def public(source):
-    """The public names of a file of specs; the fields of its records are not among them."""
+    """The public names of a file of definitions or theorems; the fields of its records are not among them."""
     record = None
     for line in source.splitlines():
         depth = len(line) - len(line.lstrip())
@@ -58,7 +60,7 @@ def main():
         long = [i for i, line in enumerate(source.splitlines(), 1) if len(line) > WIDTH]
         wrong += [f"{name}:{i}: above {WIDTH} characters" for i in long]
         wrong += [f"{name}: {word} is not used" for word in unused(source)]
-        if path.parent.name == "specs":
+        if path.parent.name == "specs" or (path.parent.name == "proofs" and path.stem not in HELPERS):
             for word in public(source):
                 homes[word].add(str(name))
     wrong += [f"{word} is defined in {', '.join(sorted(where))}" for word, where in sorted(homes.items()) if len(where) > 1]

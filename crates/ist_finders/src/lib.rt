@@ -1,4 +1,4 @@
-// The finders for C: each calls one service and carries its promise, with the place as an offset and a length. Crate `ist`
+// The finders for C: each calls one service and carries its promise, with the place as an offset and a length. Crate `ist_c`
 // exports them.
 #![tactic(auto)]
 

@@ -1,5 +1,5 @@
 // The functions for C that answer and judge frames: each calls one service and carries its promise, with the reply or verdict in
-// plain numbers. Crate `ist` exports them.
+// plain numbers. Crate `ist_c` exports them.
 #![tactic(auto)]
 
 ghost use Rattle.answering.specs.Answering.{Answered};

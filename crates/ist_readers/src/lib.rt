@@ -1,5 +1,5 @@
 // The readers for C, into arrays of the caller: each calls one service and carries its promise, with the reply or verdict in plain
-// numbers. Crate `ist` exports them.
+// numbers. Crate `ist_c` exports them.
 #![tactic(auto)]
 
 ghost use Rattle.copying.specs.Copies.{JobCopied, AnswerCopied};

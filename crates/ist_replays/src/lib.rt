@@ -1,5 +1,5 @@
-// The function for C on packet logs: it calls the service and carries its promise, with the reply in plain numbers. Crate `ist` exports
-// it.
+// The function for C on packet logs: it calls the service and carries its promise, with the reply in plain numbers. Crate `ist_c`
+// exports it.
 #![tactic(auto)]
 
 ghost use Rattle.std.specs.Prelude.{◌≡◌};

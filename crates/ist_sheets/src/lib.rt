@@ -1,4 +1,4 @@
-// The functions for C on step sheets: each calls one service and carries its promise, with the reply in plain numbers. Crate `ist`
+// The functions for C on step sheets: each calls one service and carries its promise, with the reply in plain numbers. Crate `ist_c`
 // exports them.
 #![tactic(auto)]
 
