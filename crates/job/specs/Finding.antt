@@ -4,7 +4,7 @@ use native.Mathlib.Omega.{arith}
 use Rattle.std.proofs.Common.{sym, ap, ap₂, ◌∙◌, length-append, length-drop, eq-eqb, ne_eqb, lt-ltb, le-ltb}
 use mathlib.Core.List.{List, flat_map}
 use Rattle.std.proofs.Math.Option.{some}
-use Rattle.number.specs.Number.{Bytes}
+use Rattle.number.specs.Number.{Bytes, Decoded, decode}
 use Rattle.frame.specs.Job.{bytes_of}
 use Rattle.frame.specs.Questions.{numbers, job_of, layout_refusal}
 use Rattle.frame.specs.Meaning.{edge_count, Divides}
@@ -14,7 +14,9 @@ use Rattle.frame.proofs.Division.{division}
 use Rattle.frame.proofs.RoundTrip.{job_of_lem, length_links}
 use Rattle.frame.proofs.Accepted.{laid}
 use Rattle.job.specs.declared.Header.{Header}
-use Rattle.codec.specs.Numbers.{skipped}
+use Rattle.limits.specs.Limits.{number_bytes}
+use Rattle.loops.specs.Loop.{scan}
+use Rattle.codec.specs.Numbers.{skipped, step, taken}
 use Rattle.job.specs.Reading.{header, layout_header}
 use Rattle.codec.specs.NumberLaws.{parts_join, drop_divides, skip_numbers}
 
@@ -42,6 +44,17 @@ found s b h z e =
     let four : length (drop 2 ns) ≡ 4 * edge_count ns = omega (arith, length-drop 2 ns, complete, counted.two) in
     let count : h.edges ≡ edge_count ns = edges ∙ ap (λ j. length j.links) (job_of_lem s ns b divides) ∙ length_links (edge_count ns) (drop 2 ns) four in
     record { ns = ns; divides = divides; divided = (division s ns b).1 divides; edges = count; size = omega (arith, complete, count) }
+
+taken_on : (at : ℕ) (d : Decoded) → at ≤ (taken at d).next
+unfolding taken
+taken_on at (Decoded.number v n) = omega arith
+taken_on at Decoded.none = omega arith
+
+-- Skipping numbers leads on, whatever the bytes are.
+pub skip_on : (s : List ℕ) (n i at : ℕ) → at ≤ scan (step s) n i at
+unfolding scan
+skip_on s zero i at = omega arith
+skip_on s (suc n) i at = omega (arith, taken_on at (decode number_bytes (drop at s)), skip_on s n (suc i) (step s i at))
 
 module _ (s : List ℕ) (h : Header) (z : h.refusal ≡ 0) (f : Found s h) where
   pub find_none : (e : ℕ) → h.edges ≤ e → link_place h.refusal s e ≡ nowhere

@@ -1,6 +1,6 @@
 -- The part lies between the position behind the numbers before the link and the one behind its four. Assumes nothing.
-use Rattle.std.proofs.Common.{sym}
-use Rattle.job.specs.Finding.{found, find_none, ends_order, part_within, find_place}
+use Rattle.std.proofs.Common.{arith, sym}
+use Rattle.job.specs.Finding.{found, find_none, skip_on, part_within, find_place}
 use Rattle.job.proofs.link_part.Goals as goal
 
 pub returns-then-edges-e-clause-place : goal.returns-then-edges-e-clause-place
@@ -10,11 +10,7 @@ returns-then-edges-e-clause-place c =
     sym (find_none c.args.frame.now c.args.header z f c.args.edge.0 c.if-edges-e.true)
 
 pub overflow_sub-result : goal.overflow_sub-result
-overflow_sub-result c =
-    let z = c.if-refusal-ne0.false in
-    let f = found c.args.frame.now (λ i. (c.type_inv.frame i).fits) c.args.header z (c.requires z) in
-    ends_order c.args.frame.now c.args.header z f c.args.edge.0 c.skip-first.result c.skip-end.result c.if-edges-e.false
-    c.skip-first.ensures c.skip-end.ensures
+overflow_sub-result c = omega (arith, c.skip-end.ensures, skip_on c.args.frame.now 4 0 c.skip-first.result)
 
 pub returns-clause-place : goal.returns-clause-place
 returns-clause-place c =

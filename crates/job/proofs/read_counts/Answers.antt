@@ -39,7 +39,7 @@ returns-then-count-edges c =
     sym (counts_wrong c.args.frame.now c.in-Count.count (sym c.count_numbers-numbers.ensures ∙ c.in-Count.is)
     (λ i. (c.type_inv.frame i).fits) c.if-count-lt2.false c.number_at-nodes.result c.number_at-edges.result
     c.number_at-nodes.ensures c.number_at-edges.ensures c.if-nodes-lt1.false c.if-nodes-gt-MOST_NODES.false (omega arith)
-    (λ q. c.if-count-edges.true q))
+    (λ q. omega (arith, q, c.if-count-edges.true)))
 
 pub returns : goal.returns
 returns c =
