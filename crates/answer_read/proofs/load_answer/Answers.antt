@@ -63,7 +63,8 @@ returns-then-total-edges-2-clause-answer c =
     (answer_wrong _ _ (λ i. (c.type_inv.frame i).fits) _ _ (sym c.read_long-first.ensures ∙ c.in-Value.is)
     (part_of c.args.frame.now c.in-Value.behind) (part_is c.args.frame.now c.in-Value.behind) _
     (sym c.count_numbers-numbers.ensures ∙ c.in-Count.is)
-    c.if-total-edges.false _ _ _ c.read_numbers-at.ensures c.number_at-many.result c.number_at-many.ensures c.if-total-edges-2.true)).0
+    c.if-total-edges.false _ _ _ c.read_numbers-at.ensures c.number_at-many.result c.number_at-many.ensures
+    (λ q. omega (arith, q, c.if-total-edges-2.true)))).0
 
 pub read_numbers-requires-clause-numbers : goal.read_numbers-requires-clause-numbers
 read_numbers-requires-clause-numbers c =
