@@ -14,9 +14,9 @@
  *     ist_answer        12,800    ist_answer_list        16,900
  *     ist_judge          8,100    ist_judge_list         16,300
  *     ist_judge_answer   8,200    ist_judge_answer_list  16,300
- *     ist_find_link      6,600    ist_find_cost_list     16,400
+ *     ist_find_link      6,500    ist_find_cost_list     16,300
  *     ist_find_cost      8,200    ist_write_job          16,300
- *     ist_read_job      13,700    ist_read_answer        11,400
+ *     ist_read_job      13,700    ist_read_answer        11,300
  *     ist_sheet          7,600    ist_apply_sheet         6,600
  *     ist_replay         8,200
  *
