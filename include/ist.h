@@ -13,7 +13,7 @@
  * - enough stack. Measured on x86-64 (bench/stack), rounded up to the next 100 bytes:
  *     ist_answer        12,800    ist_answer_list        16,900
  *     ist_judge          8,100    ist_judge_list         16,300
- *     ist_judge_answer   8,200    ist_judge_answer_list  16,300
+ *     ist_judge_answer   8,100    ist_judge_answer_list  16,300
  *     ist_find_link      6,500    ist_find_cost_list     16,300
  *     ist_find_cost      8,200    ist_write_job          16,300
  *     ist_read_job      13,700    ist_read_answer        11,300

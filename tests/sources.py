@@ -9,7 +9,7 @@ import sys
 ROOT = pathlib.Path(__file__).resolve().parent.parent
 CRATES = ROOT / "crates"
 WIDTH = 160
-# Files of proofs/ that only serve proofs of code; the others there hold theorems, as those of specs/ do.
+# Files of proofs/ with steps of proofs of code; the others there hold theorems, as those of specs/ do.
 HELPERS = {"Lib", "Steps", "LinkRows", "Told", "Lent", "WriteEntry"}
 USE = re.compile(r"\s*(?:ghost )?use [^{;]+\.\{(.*)\}")
 
