@@ -138,12 +138,12 @@ module _ (m : ℕ) (s : List ℕ) (h : Bytes s) (v next : ℕ) (e : read_at step
       answer_wrong n = answer_wrong_size (λ k. n (omega (arith, size, count_read)))
 
       -- The pairs stand behind the costs and their count.
-      pub pairs_divided : total ≡ m + 1 + 2 * c.value → (k : ℕ) → k ≤ 2 * c.value → Divided part c.next k
-      pairs_divided right k l =
+      pub pairs_divided : m + 1 + 2 * c.value ≤ total → (k : ℕ) → k ≤ 2 * c.value → Divided part c.next k
+      pairs_divided room k l =
           let there : c.next ≡ after.next = ap (λ (t : Taken). t.next) (p ∙ after.here) in
           record {
             ns = drop (suc m) ns;
-            enough = omega (arith, right, size, length-drop (suc m) ns);
+            enough = omega (arith, room, size, length-drop (suc m) ns);
             within = omega (arith, there, after.within);
             rest = rw there after.rest;
           }

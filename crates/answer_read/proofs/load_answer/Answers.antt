@@ -72,7 +72,7 @@ read_numbers-requires-clause-numbers c =
     (part_of c.args.frame.now c.in-Value.behind) (part_is c.args.frame.now c.in-Value.behind) _
     (sym c.count_numbers-numbers.ensures ∙ c.in-Count.is)
     c.if-total-edges.false _ _ _ c.read_numbers-at.ensures c.number_at-many.result c.number_at-many.ensures
-    c.if-total-edges-2.false _ (omega arith)
+    (omega (arith, c.if-total-edges-2.false)) _ (omega arith)
 
 pub returns-clause-answer : goal.returns-clause-answer
 returns-clause-answer c =

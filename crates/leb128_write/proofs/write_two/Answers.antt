@@ -1,8 +1,8 @@
 -- One byte, or the first and the last of `encode`. Assumes nothing.
-use Rattle.std.proofs.Common.{◌≡◌, refl, [], ◌∷◌, ◌+◌, ◌≤◌, ◌<◌, ◌/◌, ◌%◌, ℕ, length, ap, ◌∙◌, add-one, length-set, arith}
-use Rattle.std.proofs.Math.Decide.{dec_lt}
+use Rattle.std.proofs.Common.{◌≡◌, [], ◌∷◌, ◌+◌, ◌≤◌, ◌<◌, ◌/◌, ◌%◌, ℕ, length, ap, ◌∙◌, add-one, length-set, arith}
 use Rattle.number.specs.Number.{encode}
-use Rattle.leb128_write.proofs.Steps.{encode_none, encode_last, encode_more}
+use Rattle.number.proofs.Laws.{encode_size_more, encode_size_pos, encode_size_most}
+use Rattle.leb128_write.proofs.Steps.{encode_last, encode_more}
 use Rattle.leb128_write.proofs.write_two.Goals as goal
 
 short : (x : ℕ) → x < 128 → encode 2 x ≡ x ∷ []
@@ -10,13 +10,6 @@ short x l = encode_last 2 x (λ e. omega (arith, e)) l
 
 long : (x b : ℕ) → 128 ≤ x → encode 1 (x / 128) ≡ b ∷ [] → encode 2 x ≡ (x % 128 + 128) ∷ b ∷ []
 long x b l e = encode_more 2 x (λ e. omega (arith, e)) l ∙ ap (λ s. (x % 128 + 128) ∷ s) e
-
--- of at most one byte there is one, whatever the number
-one : (x : ℕ) → length (encode 1 x) ≡ 1
-one x = elim (dec_lt x 128) [
-  | yes l ↦ omega (arith, ap length (encode_last 1 x (λ e. omega (arith, e)) l))
-  | no m ↦ omega (arith, ap length (encode_more 1 x (λ e. omega (arith, e)) (omega (arith, m))), ap length (encode_none 0 (x / 128) refl))
-]
 
 pub bounds-area-at : goal.bounds-area-at
 bounds-area-at c = omega (arith, ap length (short c.args.x c.if-x-lt128.true))
@@ -32,12 +25,16 @@ bounds-area-at-2 c = omega (arith, ap length (encode_more 2 c.args.x (λ e. omeg
 
 pub bounds-area-second : goal.bounds-area-second
 bounds-area-second c =
-    simp length-set
-    (omega (arith, ap length (encode_more 2 c.args.x (λ e. omega (arith, e)) c.if-x-lt128.false), one (c.args.x / 128)))
+    simp length-set (omega (arith, encode_size_more 1 c.args.x c.if-x-lt128.false, encode_size_pos 0 (c.args.x / 128)))
 
 pub returns-clause-next : goal.returns-clause-next
 returns-clause-next c =
-    omega (arith, ap length (encode_more 2 c.args.x (λ e. omega (arith, e)) c.if-x-lt128.false), one (c.args.x / 128))
+    omega (
+      arith,
+      encode_size_more 1 c.args.x c.if-x-lt128.false,
+      encode_size_pos 0 (c.args.x / 128),
+      encode_size_most 1 (c.args.x / 128),
+    )
 
 pub returns-clause-area : goal.returns-clause-area
 returns-clause-area c = rw (long c.args.x _ c.if-x-lt128.false c.last_byte.ensures, add-one)
