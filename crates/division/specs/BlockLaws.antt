@@ -1,6 +1,6 @@
 -- Laws of blocks: a block of a frame's bytes in which each has bytes behind it that may stand there counts as many numbers as
 -- it has last bytes. Assumes nothing.
-use Rattle.std.specs.Prelude.{ℕ, zero, suc, ◌+◌, ◌*◌, ◌-◌, ◌<◌, ◌≤◌, ◌≡◌, refl, true, not, ◌&&◌, ◌||◌, List, ltb, eqb, length, get_or, drop}
+use Rattle.std.specs.Prelude.{ℕ, zero, suc, ◌+◌, ◌*◌, ◌-◌, ◌<◌, ◌≤◌, ◌≡◌, refl, true, not, ◌&&◌, ◌||◌, List, Option, ltb, eqb, length, get_or, drop}
 use Rattle.std.proofs.Math.Decide.{dec_lt}
 use Rattle.std.proofs.Common.{arith, ap, sym, ◌∙◌, length-drop, drop-drop, le-ltb, ltb-true}
 use Rattle.std.proofs.lemmas.Bool.{eqb-false, not-true}
@@ -12,7 +12,6 @@ use Rattle.number.proofs.Laws.{extend_zero, extend_more, decode_one, decode_grou
 use Rattle.limits.specs.Limits.{number_bytes}
 use Rattle.frame.specs.Questions.{divide}
 use Rattle.frame.proofs.Division.{divide_number, divide_none}
-use Rattle.division.specs.declared.Numbers.{Numbers}
 use Rattle.division.specs.Counting.{count_from, Counting, followed, continued}
 use Rattle.division.specs.CountingLaws.{count_more, count_number}
 
@@ -31,7 +30,7 @@ module _ (k : ℕ) (s : List ℕ) (i : ℕ) (within : i < length s) (h : 128 ≤
 
 -- The count goes on byte by byte. Behind a byte that is not the last nothing more is counted: what is left of its number, read
 -- alone, is a number too and counts for the whole; or neither is a number.
-module _ (s : List ℕ) (i n : ℕ) (whole : Numbers) (c : Counting s i n whole) where
+module _ (s : List ℕ) (i n : ℕ) (whole : Option ℕ) (c : Counting s i n whole) where
   count_last : i < length s → get_or s i 0 < 128 → Counting s (i + 1) (n + 1) whole
   count_last l h = count_number s i n whole c l (get_or s i 0) 1 (decode_one (number_bytes - 1) s i l h)
 
@@ -76,12 +75,12 @@ module _ (s : List ℕ) (i n : ℕ) (whole : Numbers) (c : Counting s i n whole)
             c.rest;
       }
 
-counting_same : (s : List ℕ) (i j n m : ℕ) (whole : Numbers) → i ≡ j → n ≡ m → Counting s i n whole → Counting s j m whole
+counting_same : (s : List ℕ) (i j n m : ℕ) (whole : Option ℕ) → i ≡ j → n ≡ m → Counting s i n whole → Counting s j m whole
 counting_same s i j n m whole e q c = rw (← e, ← q) c
 
 -- Behind a byte from 128 on that may stand there: the rest of its number, in one or two bytes, or two that end in 00.
 count_rest :
-    (s : List ℕ) (i n : ℕ) (whole : Numbers) →
+    (s : List ℕ) (i n : ℕ) (whole : Option ℕ) →
     Counting s i n whole →
     i + 2 < length s →
     128 ≤ get_or s i 0 →
@@ -125,7 +124,7 @@ count_rest s i n whole c l h f = of (dec_lt b 128) (dec_lt 0 d)
 
 -- One byte more: f of the bytes before it were not the last of their number.
 count_byte :
-    (s : List ℕ) (i f : ℕ) (whole : Numbers) →
+    (s : List ℕ) (i f : ℕ) (whole : Option ℕ) →
     Bytes s →
     f ≤ i →
     Counting s i (i - f) whole →
@@ -146,7 +145,7 @@ continued_few s at zero b = omega arith
 continued_few s at (suc k) b = omega (arith, continued_few s at k b, b (at + k))
 
 pub count_block :
-    (s : List ℕ) (at f k : ℕ) (whole : Numbers) →
+    (s : List ℕ) (at f k : ℕ) (whole : Option ℕ) →
     Bytes s →
     f ≤ at →
     Counting s at (at - f) whole →

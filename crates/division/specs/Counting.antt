@@ -1,17 +1,15 @@
 -- What the functions that put question 1 to a frame compute. Definitions only. Assumes nothing.
-use Rattle.std.specs.Prelude.{ℕ, ◌+◌, ◌-◌, ◌/◌, ◌≤◌, Bool, not, ◌&&◌, ◌||◌, ◌≡◌, List, ltb, eqb, length, get_or, drop}
-use Rattle.std.proofs.Math.Option.{Option, some, none}
+use Rattle.std.specs.Prelude.{ℕ, ◌+◌, ◌-◌, ◌/◌, ◌≤◌, Bool, not, ◌&&◌, ◌||◌, ◌≡◌, List, Option, Some, None, ltb, eqb, length, get_or, drop}
+use Rattle.std.proofs.Math.Option as maybe
 use Rattle.frame.specs.Questions.{divide}
-use Rattle.division.specs.declared.Numbers.{Numbers}
-use Rattle.division.specs.declared.Numbers.TheVariants.{Count, Refused}
 
 -- How many numbers a frame divides into, n of them counted before.
-unfoldable pub count_from : ℕ → Option (List ℕ) → Numbers
-count_from n (some ns) = Count (n + length ns)
-count_from n none = Refused
+unfoldable pub count_from : ℕ → maybe.Option (List ℕ) → Option ℕ
+count_from n (maybe.some ns) = Some (n + length ns)
+count_from n maybe.none = None
 
 -- The count at a position of a frame: what is still to be counted, added to n, is the whole.
-pub record Counting (s : List ℕ) (at n : ℕ) (whole : Numbers) : Type 0 where
+pub record Counting (s : List ℕ) (at n : ℕ) (whole : Option ℕ) : Type 0 where
   pub fuel : ℕ
   pub enough : length s - at ≤ fuel
   pub few : n ≤ at

@@ -1,37 +1,37 @@
 -- Laws of counting: one turn of the loop that counts a frame's numbers. Assumes nothing.
-use Rattle.std.specs.Prelude.{ℕ, zero, suc, ◌+◌, ◌-◌, ◌<◌, ◌≤◌, ◌≡◌, refl, List, ◌∷◌, length, drop}
+use Rattle.std.specs.Prelude.{ℕ, zero, suc, ◌+◌, ◌-◌, ◌<◌, ◌≤◌, ◌≡◌, refl, List, ◌∷◌, Option, Some, None, length, drop}
 use Rattle.std.proofs.Common.{arith, sym, ap, ◌∙◌, length-drop, drop_of_length-le, drop-drop}
-use Rattle.std.proofs.Math.Option.{Option, some, none, map}
+use Rattle.std.proofs.Math.Option.{some, none, map}
+use Rattle.std.proofs.Math.Option as maybe
+use Rattle.std.proofs.lemmas.Option.{none-some, same_Some}
 use Rattle.number.specs.Number.{decode}
 use Rattle.leb128.specs.Positions.{read_at, located_value, located_refused}
 use Rattle.number.specs.Number.Decoded.{number}
-use Rattle.leb128.specs.declared.Number.TheVariants as Read
+use Rattle.leb128.specs.declared.Number.{Number}
 use Rattle.number.proofs.Laws.{decode_size}
 use Rattle.limits.specs.Limits.{number_bytes}
 use Rattle.frame.specs.Questions.{divide, numbers}
 use Rattle.frame.proofs.Division.{divide_end, divide_number, divide_none}
-use Rattle.division.specs.declared.Numbers.{Numbers}
-use Rattle.division.specs.declared.Numbers.TheVariants.{Count, Refused}
 use Rattle.division.specs.Counting.{count_from, Counting}
 
 -- A number takes at least one byte.
-pub read_further : (s : List ℕ) (at v next : ℕ) → read_at number_bytes s at ≡ Read.Value v next → at < next
-read_further s at v next e =
-    let (n, d, there) = located_value at (decode number_bytes (drop at s)) v next e in
-    omega (arith, decode_size number_bytes (drop at s) v n d)
+pub read_further : (s : List ℕ) (at : ℕ) (k : Number) → read_at number_bytes s at ≡ Some k → at < k.next
+read_further s at k e =
+    let (n, d, there) = located_value at (decode number_bytes (drop at s)) k e in
+    omega (arith, decode_size number_bytes (drop at s) k.value n d)
 
 -- The loop that counts.
 pub count_start : (s : List ℕ) → Counting s 0 0 (count_from 0 (numbers s))
 count_start s = record { fuel = length s; enough = omega arith; few = omega arith; within = omega arith; rest = refl }
 
-pub count_more : (n v : ℕ) (r : Option (List ℕ)) → count_from n (map (v ∷◌) r) ≡ count_from (n + 1) r
+pub count_more : (n v : ℕ) (r : maybe.Option (List ℕ)) → count_from n (map (v ∷◌) r) ≡ count_from (n + 1) r
 unfolding count_from
 count_more n v (some ns) = let same : n + suc (length ns) ≡ n + 1 + length ns = omega arith in rw same
 count_more n v none = refl
 
 -- One number more is counted.
 pub count_number :
-    (s : List ℕ) (at n : ℕ) (whole : Numbers) →
+    (s : List ℕ) (at n : ℕ) (whole : Option ℕ) →
     Counting s at n whole →
     at < length s →
     (v m : ℕ) →
@@ -56,41 +56,40 @@ count_number s at n whole c l v m d = turn c.fuel c.enough c.rest
         }
 
 pub count_turn :
-    (s : List ℕ) (at n : ℕ) (whole : Numbers) →
+    (s : List ℕ) (at n : ℕ) (whole : Option ℕ) →
     Counting s at n whole →
     at < length s →
-    (v next : ℕ) →
-    read_at number_bytes s at ≡ Read.Value v next →
-    Counting s next (n + 1) whole
-count_turn s at n whole c l v next e =
-    let (m, d, there) = located_value at (decode number_bytes (drop at s)) v next e in
-    rw there (count_number s at n whole c l v m d)
+    (k : Number) →
+    read_at number_bytes s at ≡ Some k →
+    Counting s k.next (n + 1) whole
+count_turn s at n whole c l k e =
+    let (m, d, there) = located_value at (decode number_bytes (drop at s)) k e in
+    rw there (count_number s at n whole c l k.value m d)
 
 pub count_refused :
-    (s : List ℕ) (at n : ℕ) (whole : Numbers) →
+    (s : List ℕ) (at n : ℕ) (whole : Option ℕ) →
     Counting s at n whole →
     at < length s →
-    read_at number_bytes s at ≡ Read.Refused →
-    Refused ≡ whole
+    read_at number_bytes s at ≡ None →
+    None ≡ whole
 unfolding count_from
 count_refused s at n whole c l e =
     let d = located_refused at (decode number_bytes (drop at s)) e in
     sym (ap (count_from n) (divide_none c.fuel (drop at s) (omega (arith, length-drop at s)) d)) ∙ c.rest
 
-pub count_end : (s : List ℕ) (at n : ℕ) (whole : Numbers) → Counting s at n whole → length s ≤ at → Count n ≡ whole
+pub count_end : (s : List ℕ) (at n : ℕ) (whole : Option ℕ) → Counting s at n whole → length s ≤ at → Some n ≡ whole
 unfolding count_from
 count_end s at n whole c l =
     let none_left : n + zero ≡ n = omega arith in
-    sym (ap (λ (t : List ℕ). count_from n (divide c.fuel t)) (drop_of_length-le s l) ∙ ap (count_from n) (divide_end c.fuel) ∙ ap Count none_left) ∙ c.rest
+    sym (ap (λ (t : List ℕ). count_from n (divide c.fuel t)) (drop_of_length-le s l) ∙ ap (count_from n) (divide_end c.fuel) ∙ ap Some none_left) ∙ c.rest
 
-pub counted_some : (o : Option (List ℕ)) (count : ℕ) → count_from 0 o ≡ Count count → (ns : List ℕ) × (o ≡ some ns) × (length ns ≡ count)
+pub counted_some : (o : maybe.Option (List ℕ)) (count : ℕ) → count_from 0 o ≡ Some count → (ns : List ℕ) × (o ≡ some ns) × (length ns ≡ count)
 unfolding count_from
 counted_some (some ns) count e =
-    let same : 0 + length ns ≡ count = cc in
-    (ns, refl, omega arith)
-counted_some none count e = let z : ◌≡◌ {A = ℕ} 0 1 = cc in absurd (omega arith)
+    (ns, refl, omega (arith, same_Some _ _ e))
+counted_some none count e = absurd (none-some count e)
 
-pub counted_none : (o : Option (List ℕ)) → count_from 0 o ≡ Refused → o ≡ none
+pub counted_none : (o : maybe.Option (List ℕ)) → count_from 0 o ≡ None → o ≡ none
 unfolding count_from
-counted_none (some ns) e = let z : ◌≡◌ {A = ℕ} 0 1 = cc in absurd (omega arith)
+counted_none (some ns) e = absurd (none-some _ (sym e))
 counted_none none e = refl

@@ -6,15 +6,6 @@ ghost use Rattle.loops.specs.Below.{all_below, sum};
 ghost use Rattle.frame.specs.Questions.{numbers};
 ghost use Rattle.division.specs.Counting.{count_from, Counting, may_follow, followed, continued};
 
-use leb128::Number;
-
-// How many numbers a frame divides into, or that it does not (question 1).
-#[derive(Clone, Copy)]
-pub enum Numbers {
-    Count(usize),
-    Refused,
-}
-
 // A position of a frame and how many numbers end before it.
 #[derive(Clone, Copy)]
 struct Passed {
@@ -45,12 +36,10 @@ fn block_divides(frame: &[u8], at: usize) -> bool
     ensures { result ≡ all_below 32 (λ k. followed frame.now (at + k)) }
 {
     let mut holds = true;
-    let mut k: usize = 0;
-    while k < 32 {
+    for k in 0..32 {
         let i = at + k;
         let follows = may_follow(frame[i], frame[i + 1], frame[i + 2]);
         holds = holds & follows;
-        k += 1;
     }
     holds
 }
@@ -61,10 +50,8 @@ fn block_firsts(frame: &[u8], at: usize) -> u8
     ensures { result ≡ sum 32 (λ k. continued frame.now (at + k)) }
 {
     let mut firsts: u8 = 0;
-    let mut k: usize = 0;
-    while k < 32 {
+    for k in 0..32 {
         firsts += frame[at + k] / 128;
-        k += 1;
     }
     firsts
 }
@@ -84,25 +71,22 @@ fn count_blocks(frame: &[u8]) -> Passed
         at += 32;
     }
     Passed {
-        at: at,
+        at,
         count: at - firsts,
     }
 }
 
-// Question 1, put to the whole frame: in blocks as far as they go, then number by number.
-pub fn count_numbers(frame: &[u8]) -> Numbers
+// Question 1, put to the whole frame: how many numbers it divides into; none if it does not. In blocks as far as they go, then number
+// by number.
+pub fn count_numbers(frame: &[u8]) -> Option<usize>
     ensures { result ≡ count_from 0 (numbers frame.now) }
 {
     let passed = count_blocks(frame);
     let mut at = passed.at;
     let mut count = passed.count;
     while at < frame.len() {
-        let n = leb128::read_short(frame, at);
-        let Number::Value(_, next) = n else {
-            return Numbers::Refused;
-        };
-        at = next;
+        at = leb128::read_short(frame, at)?.next;
         count += 1;
     }
-    Numbers::Count(count)
+    Some(count)
 }

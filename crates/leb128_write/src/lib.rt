@@ -2,71 +2,61 @@
 // `number`.
 #![tactic(auto)]
 
-ghost use Rattle.std.specs.Prelude.{◌≡◌, [], ◌∷◌, ◌+◌, ◌≤◌, length};
+ghost use Rattle.std.specs.Prelude.{◌≡◌, ◌+◌, ◌≤◌, length};
 ghost use Rattle.std.proofs.lemmas.List.Edits.{sets};
 ghost use Rattle.number.specs.Number.{encode};
+
+// How many bytes `x` takes, of at most `most`.
+fn size(x: u32, most: u32) -> usize
+    ensures { result ≡ length (encode most x) }
+{
+    if most == 0 {
+        return 0;
+    }
+    if x < 128 {
+        return 1;
+    }
+    1 + size(x / 128, most - 1)
+}
 
 // How many bytes `x` takes, of at most three.
 pub fn size_short(x: u32) -> usize
     ensures { result ≡ length (encode 3 x) }
 {
-    if x < 128 {
-        return 1;
-    }
-    if x < 16384 {
-        return 2;
-    }
-    3
+    size(x, 3)
 }
 
 // How many bytes `x` takes, of at most four.
 pub fn size_long(x: u32) -> usize
     ensures { result ≡ length (encode 4 x) }
 {
-    if x < 128 {
-        return 1;
-    }
-    1 + size_short(x / 128)
+    size(x, 4)
 }
 
-// The last byte of at most one.
-fn last_byte(x: u32) -> u8
-    ensures { encode 1 x ≡ result ∷ [] }
+// Puts `x` at `at` in at most `most` bytes and gives the position behind it.
+fn write(area: &mut [u8], at: usize, x: u32, most: u32) -> usize
+    requires { at + length (encode most x) ≤ length area.old }
+    ensures next { result ≡ at + length (encode most x) }
+    ensures area { area.new ≡ sets area.old at (encode most x) }
 {
-    if x < 128 {
-        return x as u8;
+    if most == 0 {
+        return at;
     }
-    (x % 128 + 128) as u8
-}
-
-// Puts `x` at `at` in at most two bytes and gives the position behind it.
-fn write_two(area: &mut [u8], at: usize, x: u32) -> usize
-    requires { at + length (encode 2 x) ≤ length area.old }
-    ensures next { result ≡ at + length (encode 2 x) }
-    ensures area { area.new ≡ sets area.old at (encode 2 x) }
-{
     if x < 128 {
         area[at] = x as u8;
         return at + 1;
     }
     area[at] = (x % 128 + 128) as u8;
-    let second = at + 1;
-    area[second] = last_byte(x / 128);
-    second + 1
+    write(area, at + 1, x / 128, most - 1)
 }
 
-// Puts `x` at `at` in at most three bytes: a byte, and behind it the rest in at most two.
+// Puts `x` at `at` in at most three bytes.
 pub fn write_short(area: &mut [u8], at: usize, x: u32) -> usize
     requires { at + length (encode 3 x) ≤ length area.old }
     ensures next { result ≡ at + length (encode 3 x) }
     ensures area { area.new ≡ sets area.old at (encode 3 x) }
 {
-    if x < 128 {
-        area[at] = x as u8;
-        return at + 1;
-    }
-    area[at] = (x % 128 + 128) as u8;
-    write_two(area, at + 1, x / 128)
+    write(area, at, x, 3)
 }
 
 // Puts `x` at `at` in at most four bytes.
@@ -75,10 +65,5 @@ pub fn write_long(area: &mut [u8], at: usize, x: u32) -> usize
     ensures next { result ≡ at + length (encode 4 x) }
     ensures area { area.new ≡ sets area.old at (encode 4 x) }
 {
-    if x < 128 {
-        area[at] = x as u8;
-        return at + 1;
-    }
-    area[at] = (x % 128 + 128) as u8;
-    write_short(area, at + 1, x / 128)
+    write(area, at, x, 4)
 }

@@ -1,11 +1,8 @@
 -- The loop's invariant: the bytes passed are counted.
-use Rattle.std.proofs.Common.{◌≡◌, ◌≤◌, ◌+◌, ◌-◌}
+use Rattle.std.proofs.Common.{◌≡◌, ◌≤◌, ◌+◌}
 use Rattle.loops.specs.Below.{sum}
 use Rattle.division.specs.Counting.{continued}
 use Rattle.division.proofs.block_firsts.Given as goal
 
 abbrev pub invariant-loop-k : goal.invariant-loop-k
-invariant-loop-k l = (l.k ≤ 32) × (l.firsts ≡ sum l.k (λ j. continued l.frame (l.at + j))) × (l.firsts ≤ l.k)
-
-abbrev pub decreases-loop-k : goal.decreases-loop-k
-decreases-loop-k l = 32 - l.k
+invariant-loop-k l = (l.firsts ≡ sum l.k (λ j. continued l.frame (l.at + j))) × (l.firsts ≤ l.k)
