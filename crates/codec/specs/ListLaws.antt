@@ -15,7 +15,7 @@ use Rattle.frame.specs.Job.{bytes_of}
 use Rattle.frame.specs.Meaning.{Divides}
 use Rattle.frame.proofs.RoundTrip.{flat_map_append}
 use Rattle.frame.proofs.AnswerSize.{bytes_most}
-use Rattle.codec.specs.declared.Taken.{Taken}
+use Rattle.leb128.specs.declared.Number.{Number}
 use Rattle.codec.specs.Numbers.{taken_at, numbers_at, Loaded, loaded_at, load}
 use Rattle.codec.specs.NumberLaws.{next_number}
 
@@ -69,7 +69,7 @@ numbers_put xs l h =
 -- A turn of the reader.
 pub number_turn :
     (s : List ℕ) (n i : ℕ) (l whole : Loaded) → scan (load s) (n - i) i l ≡ whole → i < n
-    → (t : Taken) → t ≡ taken_at s l.next
+    → (t : Number) → t ≡ taken_at s l.next
     → scan (load s) (n - (i + 1)) (i + 1) (loaded_at t.next (set l.values i t.value)) ≡ whole
 unfolding load
 number_turn s n i l whole q k t p = rw p (sym (scan_turn (load s) n i l k) ∙ q)

@@ -1,28 +1,27 @@
 -- Laws of reading numbers: what the number at a position is, and where a frame that divides has its numbers. Assumes nothing.
-use Rattle.std.specs.Prelude.{ℕ, zero, suc, ◌+◌, ◌-◌, ◌<◌, ◌≤◌, ◌≡◌, refl, length, drop, take}
+use Rattle.std.specs.Prelude.{ℕ, zero, suc, ◌+◌, ◌-◌, ◌<◌, ◌≤◌, ◌≡◌, refl, Some, None, length, drop, take}
 use Rattle.std.proofs.Common.{arith, sym, ap, ◌∙◌, length-drop, length-append, take-append-drop, drop-drop, get_or-drop}
 use mathlib.Core.List.{List, [], ◌∷◌, ◌++◌, flat_map}
 use Rattle.std.proofs.Math.Seq.{drop-append_seam}
 use Rattle.loops.specs.Loop.{scan}
 use Rattle.number.specs.Number.{decode, encode}
 use Rattle.leb128.specs.Positions.{read_at, located_value, located_refused, Stands}
-use Rattle.leb128.specs.declared.Number.TheVariants as Read
+use Rattle.leb128.specs.declared.Number.{Number}
 use Rattle.number.proofs.Laws.{decode_encode, encode_size_pos}
 use Rattle.limits.specs.Limits.{number_bytes}
 use Rattle.frame.specs.Job.{bytes_of}
 use Rattle.codec.specs.Numbers.{taken, taken_at, Divided, step, skipped}
 use Rattle.frame.specs.Meaning.{Divides}
-use Rattle.codec.specs.declared.Taken.{Taken}
 use Rattle.frame.proofs.RoundTrip.{flat_map_append}
 
 -- What the reader of numbers says, in terms of what stands there.
-pub taken_value : (s : List ℕ) (at v next : ℕ) → read_at number_bytes s at ≡ Read.Value v next → taken_at s at ≡ record { value = v; next = next }
+pub taken_value : (s : List ℕ) (at : ℕ) (k : Number) → read_at number_bytes s at ≡ Some k → taken_at s at ≡ k
 unfolding taken
-taken_value s at v next e =
-    let (n, d, there) = located_value at (decode number_bytes (drop at s)) v next e in
-    ap (taken at) d ∙ ap (λ (p : ℕ). record { value = v; next = p }) (sym there)
+taken_value s at k e =
+    let (n, d, there) = located_value at (decode number_bytes (drop at s)) k e in
+    ap (taken at) d ∙ ap (λ (p : ℕ). record { value = k.value; next = p }) (sym there)
 
-pub taken_refused : (s : List ℕ) (at : ℕ) → read_at number_bytes s at ≡ Read.Refused → taken_at s at ≡ record { value = 0; next = at }
+pub taken_refused : (s : List ℕ) (at : ℕ) → read_at number_bytes s at ≡ None → taken_at s at ≡ record { value = 0; next = at }
 unfolding taken
 taken_refused s at e = rw (located_refused at (decode number_bytes (drop at s)) e)
 
@@ -63,17 +62,17 @@ module _ (s : List ℕ) (at n : ℕ) where
       first [] h r = omega arith
       first (v ∷ ns) h r =
           let one = next_number s ns v at d.within r in
-          let still : one.next ≡ at = ap (λ (t : Taken). t.next) (sym one.here ∙ taken_refused s at e) in
+          let still : one.next ≡ at = ap (λ (t : Number). t.next) (sym one.here ∙ taken_refused s at e) in
           omega (arith, still, one.size, encode_size_pos (number_bytes - 1) v)
 
-  pub divided_next : Divided s at n → (k v next : ℕ) → k < n → read_at number_bytes s at ≡ Read.Value v next → Divided s next k
-  divided_next d k v next l e = first d.ns (omega (arith, d.enough)) d.rest
+  pub divided_next : Divided s at n → (k : ℕ) (m : Number) → k < n → read_at number_bytes s at ≡ Some m → Divided s m.next k
+  divided_next d k m l e = first d.ns (omega (arith, d.enough)) d.rest
     where
-      first : (ns : List ℕ) → k < length ns → Divides (drop at s) ns → Divided s next k
+      first : (ns : List ℕ) → k < length ns → Divides (drop at s) ns → Divided s m.next k
       first [] h r = absurd (omega arith)
       first (w ∷ ns) h r =
           let one = next_number s ns w at d.within r in
-          let there : next ≡ one.next = ap (λ (t : Taken). t.next) (sym (taken_value s at v next e) ∙ one.here) in
+          let there : m.next ≡ one.next = ap (λ (t : Number). t.next) (sym (taken_value s at m e) ∙ one.here) in
           record { ns = ns; enough = omega arith; within = omega (arith, there, one.within); rest = rw there one.rest }
 
 -- A frame's bytes are those of its first i numbers, and then those of the others.

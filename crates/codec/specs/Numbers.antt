@@ -6,17 +6,17 @@ use Rattle.loops.specs.Loop.{scan, tabulate}
 use Rattle.number.specs.Number.{Decoded, decode}
 use Rattle.limits.specs.Limits.{number_bytes}
 use Rattle.frame.specs.Meaning.{Divides}
-use Rattle.codec.specs.declared.Taken.{Taken}
+use Rattle.leb128.specs.declared.Number.{Number}
 use Rattle.frame.specs.Services.{Place, Outcome}
 use Rattle.codec.specs.declared.Part.{Part}
 use Rattle.codec.specs.declared.Reply.{Reply}
 
 -- The number at a position and the position behind it; 0 and the position itself if there is none.
-unfoldable pub taken : ℕ → Decoded → Taken
+unfoldable pub taken : ℕ → Decoded → Number
 taken at (Decoded.number v n) = record { value = v; next = at + n }
 taken at Decoded.none = record { value = 0; next = at }
 
-abbrev pub taken_at : List ℕ → ℕ → Taken
+abbrev pub taken_at : List ℕ → ℕ → Number
 taken_at s at = taken at (decode number_bytes (drop at s))
 
 -- From a position on a part of a frame divides into numbers, at least n of them.
@@ -48,7 +48,7 @@ loaded_at next values = record { next = next; values = values }
 -- The number at the position read into place i; and n numbers, from a position on, into the first places.
 unfoldable pub load : List ℕ → ℕ → Loaded → Loaded
 load s i l =
-    let t : Taken = taken_at s l.next in
+    let t : Number = taken_at s l.next in
     loaded_at t.next (set l.values i t.value)
 
 abbrev pub loaded : List ℕ → ℕ → ℕ → List ℕ → Loaded

@@ -8,13 +8,6 @@ ghost use Rattle.codec.specs.Numbers.{taken_at, skipped, numbers_at, Put, Divide
 
 use leb128::Number;
 
-// A number and the position behind it.
-#[derive(Clone, Copy)]
-pub struct Taken {
-    pub value: u32,
-    pub next: usize,
-}
-
 // Where a part of a frame stands.
 #[derive(Clone, Copy)]
 pub struct Part {
@@ -39,18 +32,11 @@ pub fn refused(refusal: u32) -> Reply
     }
 }
 
-// The number at a position.
-pub fn number_at(s: &[u8], at: usize) -> Taken
+// The number at a position; 0 and the position itself if there is none.
+pub fn number_at(s: &[u8], at: usize) -> Number
     ensures { result ≡ taken_at s.now at }
 {
-    let n = leb128::read_short(s, at);
-    match n {
-        Number::Value(value, next) => Taken {
-            value: value,
-            next: next,
-        },
-        Number::Refused => Taken { value: 0, next: at },
-    }
+    leb128::read_short(s, at).unwrap_or(Number { value: 0, next: at })
 }
 
 // The position behind so many numbers.
@@ -58,11 +44,8 @@ pub fn skip(s: &[u8], at: usize, count: usize) -> usize
     ensures { result ≡ skipped s.now count at }
 {
     let mut next = at;
-    let mut i: usize = 0;
-    while i < count {
-        let n = number_at(s, next);
-        next = n.next;
-        i += 1;
+    for _ in 0..count {
+        next = number_at(s, next).next;
     }
     next
 }
@@ -73,10 +56,8 @@ pub fn numbers_size(values: &[u32], count: usize) -> usize
     ensures { result ≡ length (bytes_of (numbers_at count values.now)) }
 {
     let mut total: usize = 0;
-    let mut i: usize = 0;
-    while i < count {
+    for i in 0..count {
         total += leb128_write::size_short(values[i]);
-        i += 1;
     }
     total
 }
@@ -88,10 +69,8 @@ pub fn write_numbers(area: &mut [u8], at: usize, values: &[u32], count: usize) -
     ensures { Put area.old at (bytes_of (numbers_at count values.now)) result area.new }
 {
     let mut next = at;
-    let mut i: usize = 0;
-    while i < count {
+    for i in 0..count {
         next = leb128_write::write_short(area, next, values[i]);
-        i += 1;
     }
     next
 }
@@ -123,12 +102,10 @@ pub fn read_numbers(s: &[u8], at: usize, values: &mut [u32], count: usize) -> us
     ensures { loaded_at result values.new ≡ loaded s.now at count values.old }
 {
     let mut next = at;
-    let mut i: usize = 0;
-    while i < count {
+    for i in 0..count {
         let n = leb128::read_known(s, next);
         values[i] = n.value;
         next = n.next;
-        i += 1;
     }
     next
 }

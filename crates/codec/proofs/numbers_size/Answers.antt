@@ -13,11 +13,11 @@ few_bytes n x e = omega (arith, e, encode_size_most number_bytes x)
 
 pub loop-i-init : goal.loop-i-init
 unfolding gather flat_map
-loop-i-init c = (omega arith, refl)
+loop-i-init c = refl
 
 pub overflow_add-total : goal.overflow_add-total
 overflow_add-total c =
     omega (arith, few_bytes c.size_short-total.result _ c.size_short-total.ensures, size_short c.args.values.now c.loop-i.i)
 
 pub loop-i-preserved : goal.loop-i-preserved
-loop-i-preserved c = (omega arith, omega (arith, c.size_short-total.ensures, size_more c.args.values.now c.loop-i.i))
+loop-i-preserved c = omega (arith, c.size_short-total.ensures, size_more c.args.values.now c.loop-i.i)

@@ -1,11 +1,8 @@
 -- The loop's invariant: the size of the numbers passed.
-use Rattle.std.proofs.Common.{◌≡◌, ◌≤◌, ◌-◌, length}
+use Rattle.std.proofs.Common.{◌≡◌, length}
 use Rattle.frame.specs.Job.{bytes_of}
 use Rattle.codec.specs.Numbers.{numbers_at}
 use Rattle.codec.proofs.numbers_size.Given as goal
 
 abbrev pub invariant-loop-i : goal.invariant-loop-i
-invariant-loop-i l = (l.i ≤ l.count) × (l.total ≡ length (bytes_of (numbers_at l.i l.values)))
-
-abbrev pub decreases-loop-i : goal.decreases-loop-i
-decreases-loop-i l = l.count - l.i
+invariant-loop-i l = (l.total ≡ length (bytes_of (numbers_at l.i l.values)))

@@ -8,17 +8,17 @@ use Rattle.codec.proofs.write_numbers.Goals as goal
 
 pub loop-i-init : goal.loop-i-init
 unfolding gather flat_map
-loop-i-init c = (omega arith, record { next = omega arith; area = refl })
+loop-i-init c = record { next = omega arith; area = refl }
 
 pub write_short-next-requires : goal.write_short-next-requires
 write_short-next-requires c =
     let vs = c.args.values.now in
     let within = size_within vs (c.loop-i.i + 1) c.args.count (omega arith) in
-    put_room _ _ _ _ _ _ c.loop-i.invariant.1 (omega (arith, c.requires.values_in_bounds, size_more vs c.loop-i.i, within))
+    put_room _ _ _ _ _ _ c.loop-i.invariant (omega (arith, c.requires.values_in_bounds, size_more vs c.loop-i.i, within))
 
 pub loop-i-preserved : goal.loop-i-preserved
 loop-i-preserved c =
     let w = c.write_short-next in
-    let put = put_more _ _ _ _ _ _ _ _ c.loop-i.invariant.1 w.ensures.next w.ensures.area in
+    let put = put_more _ _ _ _ _ _ _ _ c.loop-i.invariant w.ensures.next w.ensures.area in
     let more = sym (bytes_more c.args.values.now c.loop-i.i) in
-    (omega arith, subst (λ (bytes : List ℕ). Put c.args.area.now c.args.at bytes w.result w.new.area) more put)
+    subst (λ (bytes : List ℕ). Put c.args.area.now c.args.at bytes w.result w.new.area) more put
