@@ -1,6 +1,6 @@
 -- Numbers in a frame, one behind the other: what the functions that read and write them compute. Definitions only.
 -- Assumes nothing.
-use Rattle.std.specs.Prelude.{ℕ, ◌+◌, ◌≤◌, ◌≡◌, List, length, drop, get_or, set}
+use Rattle.std.specs.Prelude.{ℕ, ◌+◌, ◌≤◌, ◌≡◌, List, Result, length, drop, get_or, set}
 use Rattle.std.proofs.lemmas.List.Edits.{sets}
 use Rattle.loops.specs.Loop.{scan, tabulate}
 use Rattle.number.specs.Number.{Decoded, decode}
@@ -9,7 +9,8 @@ use Rattle.frame.specs.Meaning.{Divides}
 use Rattle.leb128.specs.declared.Number.{Number}
 use Rattle.frame.specs.Services.{Place, Outcome}
 use Rattle.codec.specs.declared.Part.{Part}
-use Rattle.codec.specs.declared.Reply.{Reply}
+use Rattle.limits.specs.declared.Refusal.{Refusal}
+use Rattle.limits.specs.Refusals.{refusal_in, size_in}
 
 -- The number at a position and the position behind it; 0 and the position itself if there is none.
 unfoldable pub taken : ℕ → Decoded → Number
@@ -63,10 +64,6 @@ pub record Put (before : List ℕ) (at : ℕ) (bytes : List ℕ) (behind : ℕ) 
   pub next : behind ≡ at + length bytes
   pub area : after ≡ sets before at bytes
 
--- A reply, with the area as it then is.
-abbrev pub outcome : Reply → List ℕ → Outcome
-outcome r area = record { refusal = r.refusal; size = r.length; area = area }
-
--- The reply to what is refused.
-abbrev pub refused_reply : ℕ → Reply
-refused_reply r = record { refusal = r; length = 0 }
+-- What a service says, with the area as it then is: the length written, or why it refuses.
+abbrev pub outcome : Result ℕ Refusal → List ℕ → Outcome
+outcome r area = record { refusal = refusal_in r; size = size_in r; area = area }

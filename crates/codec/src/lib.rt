@@ -4,32 +4,16 @@
 ghost use Rattle.std.specs.Prelude.{◌≡◌, ◌+◌, ◌≤◌, length};
 ghost use Rattle.frame.specs.Job.{bytes_of};
 ghost use Rattle.frame.specs.Services.{written};
-ghost use Rattle.codec.specs.Numbers.{taken_at, skipped, numbers_at, Put, Divided, loaded_at, loaded, refused_reply, outcome};
+ghost use Rattle.codec.specs.Numbers.{taken_at, skipped, numbers_at, Put, Divided, loaded_at, loaded, outcome};
 
 use leb128::Number;
+use limits::Refusal;
 
 // Where a part of a frame stands.
 #[derive(Clone, Copy)]
 pub struct Part {
     pub offset: usize,
     pub length: usize,
-}
-
-// A refusal and 0, or 0 and the length written.
-#[derive(Clone, Copy)]
-pub struct Reply {
-    pub refusal: u32,
-    pub length: usize,
-}
-
-// The reply of a refusal: no length.
-pub fn refused(refusal: u32) -> Reply
-    ensures { result ≡ refused_reply refusal }
-{
-    Reply {
-        refusal: refusal,
-        length: 0,
-    }
 }
 
 // The number at a position; 0 and the position itself if there is none.
@@ -77,21 +61,17 @@ pub fn write_numbers(area: &mut [u8], at: usize, values: &[u32], count: usize) -
 
 // Writes the first `count` numbers at the front of the area; question 7. A number takes at most three bytes: where the area has
 // room for that, they are not measured.
-pub fn write_list(values: &[u32], count: usize, area: &mut [u8]) -> Reply
+pub fn write_list(values: &[u32], count: usize, area: &mut [u8]) -> Result<usize, Refusal>
     requires { count ≤ length values.now }
     ensures { outcome result area.new ≡ written 0 (bytes_of (numbers_at count values.now)) 0 area.old }
 {
     if area.len() / 3 < count {
         let total = numbers_size(values, count);
         if area.len() < total {
-            return refused(7);
+            return Err(Refusal::Room);
         }
     }
-    let end = write_numbers(area, 0, values, count);
-    Reply {
-        refusal: 0,
-        length: end,
-    }
+    Ok(write_numbers(area, 0, values, count))
 }
 
 // Reads so many numbers from a position on, each into its place, and gives the position behind them. They are known to stand

@@ -1,3 +1,4 @@
--- The limits and the marks of the format.
+-- The limits, the marks and the refusals of the format.
 pub mod Limits
+pub mod Refusals
 pub mod MarkLaws

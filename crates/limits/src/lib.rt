@@ -1,9 +1,13 @@
-// The limits and the marks of the format, once for all code. specs/Limits.antt has them for the definitions: a function whose
-// constant differed from its definition's would not be proved.
+// The limits, the marks and the refusals of the format, once for all code. specs/Limits.antt and specs/Refusals.antt have them for the
+// definitions: a function whose constant differed from its definition's would not be proved.
 #![tactic(auto)]
 
-ghost use Rattle.std.specs.Prelude.{◌≡◌};
+ghost use Rattle.std.specs.Prelude.{◌≡◌, Some};
+ghost use Rattle.std.specs.Fmt.{decimal};
 ghost use Rattle.limits.specs.Limits.{marks_tree, marks_spare};
+ghost use Rattle.limits.specs.Refusals.{number_of};
+
+use std::fmt;
 
 // Stations of a job.
 pub const MOST_NODES: u32 = 64;
@@ -45,4 +49,56 @@ pub fn is_spare(mark: u32) -> bool
     ensures { result ≡ marks_spare mark }
 {
     mark == SPARE_MARK
+}
+
+// Why a job, or what comes with it, is refused: a question for each, in the order in which they are put. The first "no" refuses.
+#[derive(Clone, Copy, PartialEq, Eq)]
+pub enum Refusal {
+    // A number is cut off, too long, too large or not in shortest form.
+    Numbers,
+    // A count is missing or out of range.
+    Counts,
+    // Behind the counts there are not four numbers a link.
+    Length,
+    // An end is no station, or both ends are the same.
+    Ends,
+    // A mark is none of the three.
+    Marks,
+    // The marked links are no spanning tree.
+    Tree,
+    // The area, or an array, is too short.
+    Room,
+    // The costs or the step sheet are not in form, or lead out of the range.
+    Sheet,
+    // The packet log is none of the job.
+    Log,
+}
+
+// A refusal's number is that of its question.
+impl From<Refusal> for u32 {
+    ghost from_gives = { λ r n. n ≡ number_of r };
+
+    fn from(refusal: Refusal) -> u32 {
+        match refusal {
+            Refusal::Numbers => 1,
+            Refusal::Counts => 2,
+            Refusal::Length => 3,
+            Refusal::Ends => 4,
+            Refusal::Marks => 5,
+            Refusal::Tree => 6,
+            Refusal::Room => 7,
+            Refusal::Sheet => 8,
+            Refusal::Log => 9,
+        }
+    }
+}
+
+// A refusal is shown by its number.
+impl fmt::Display for Refusal {
+    ghost output = { λ r. Some (decimal (number_of r)) };
+
+    fn fmt<W: fmt::Write>(&self, f: &mut fmt::Formatter<W>) -> fmt::Result {
+        let number = u32::from(*self);
+        write!(f, "{number}")
+    }
 }

@@ -8,8 +8,8 @@ use Rattle.codec.proofs.write_list.Goals as goal
 use Rattle.codec.proofs.write_list.Goals.{then-area-count+else-area-total, else-area-count}
 
 -- there is room for the bytes of the numbers
-pub write_numbers-end-requires-clause-values_in_bounds : goal.write_numbers-end-requires-clause-values_in_bounds
-write_numbers-end-requires-clause-values_in_bounds c =
+pub write_numbers-requires-clause-values_in_bounds : goal.write_numbers-requires-clause-values_in_bounds
+write_numbers-requires-clause-values_in_bounds c =
     elim c.if-area-count.branch [
       | then-area-count+else-area-total w ↦ omega (arith, w.if-area-total.false, w.numbers_size-total.ensures)
       | else-area-count w ↦ omega (arith, w.if-area-count.false, size_short c.args.values.now c.args.count)
@@ -23,4 +23,4 @@ returns c =
       | else-area-count w ↦ omega (arith, w.if-area-count.false, size_short c.args.values.now c.args.count)
     ] in
     put_whole 0 (bytes_of (numbers_at c.args.count c.args.values.now)) 0 c.args.area.now _ _ refl room
-    (omega (arith, c.write_numbers-end.ensures.next)) c.write_numbers-end.ensures.area
+    (omega (arith, c.write_numbers.ensures.next)) c.write_numbers.ensures.area
