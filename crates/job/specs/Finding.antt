@@ -1,12 +1,12 @@
 -- What the link finder computes, and that it finds a link's numbers. Assumes nothing.
-use Rattle.std.specs.Prelude.{ℕ, zero, suc, ◌+◌, ◌-◌, ◌*◌, ◌<◌, ◌≤◌, ◌≡◌, refl, length, take, drop}
+use Rattle.std.specs.Prelude.{ℕ, zero, suc, ◌+◌, ◌-◌, ◌*◌, ◌<◌, ◌≤◌, ◌≡◌, length, take, drop}
 use native.Mathlib.Omega.{arith}
-use Rattle.std.proofs.Common.{sym, ap, ap₂, ◌∙◌, length-append, length-drop, eq-eqb, ne_eqb, lt-ltb, le-ltb}
+use Rattle.std.proofs.Common.{sym, ap, ap₂, ◌∙◌, length-append, length-drop, ne_eqb, lt-ltb, le-ltb}
 use mathlib.Core.List.{List, flat_map}
 use Rattle.std.proofs.Math.Option.{some}
 use Rattle.number.specs.Number.{Bytes, Decoded, decode}
 use Rattle.frame.specs.Job.{bytes_of}
-use Rattle.frame.specs.Questions.{numbers, job_of, layout_refusal}
+use Rattle.frame.specs.Questions.{numbers}
 use Rattle.frame.specs.Meaning.{edge_count, Divides}
 use Rattle.frame.specs.Services.{nowhere, link_offset, link_length}
 use Rattle.frame.specs.Replies.{link_place}
@@ -17,12 +17,15 @@ use Rattle.job.specs.declared.Header.{Header}
 use Rattle.limits.specs.Limits.{number_bytes}
 use Rattle.loops.specs.Loop.{scan}
 use Rattle.codec.specs.Numbers.{skipped, step, taken}
-use Rattle.job.specs.Reading.{header, layout_header}
+use Rattle.limits.specs.declared.Refusal.{Refusal}
+use Rattle.limits.specs.Refusals.{number_of}
+use Rattle.limits.specs.ResultLaws.{refusal_nonzero}
+use Rattle.job.specs.Reading.{Laid}
 use Rattle.codec.specs.NumberLaws.{parts_join, drop_divides, skip_numbers}
 
 -- The finder, by the tests of the code.
-pub find_refused : (h : Header) (s : List ℕ) (e : ℕ) → (h.refusal ≡ 0 → ⊥) → link_place h.refusal s e ≡ nowhere
-find_refused h s e n = rw (ne_eqb h.refusal 0 n)
+pub find_refused : (r : Refusal) (s : List ℕ) (e : ℕ) → link_place (number_of r) s e ≡ nowhere
+find_refused r s e = rw (ne_eqb (number_of r) 0 (refusal_nonzero r))
 
 -- An accepted header's count is the frame's.
 pub record Found (s : List ℕ) (h : Header) : Type 0 where
@@ -32,17 +35,12 @@ pub record Found (s : List ℕ) (h : Header) : Type 0 where
   pub edges : h.edges ≡ edge_count ns
   pub size : length ns ≡ 4 * h.edges + 2
 
-header_form : (r : ℕ) (h : Header) (s : List ℕ) → h.refusal ≡ 0 → h ≡ header r (job_of s) → (r ≡ 0) × (h.edges ≡ length (job_of s).links)
-unfolding header
-header_form zero h s z e = (refl, ap (λ (h : Header). h.edges) e)
-header_form (suc r) h s z e = absurd (omega (arith, z, ap (λ (h : Header). h.refusal) e))
-
-pub found : (s : List ℕ) → Bytes s → (h : Header) → h.refusal ≡ 0 → h ≡ layout_header s → Found s h
-found s b h z e =
-    let (r, edges) = header_form (layout_refusal s) h s z e in
-    let (ns, divides, counted, complete) = laid s b r in
+pub found : (s : List ℕ) → Bytes s → (h : Header) → Laid s h → Found s h
+found s b h l =
+    let (ns, divides, counted, complete) = laid s b l.passed in
     let four : length (drop 2 ns) ≡ 4 * edge_count ns = omega (arith, length-drop 2 ns, complete, counted.two) in
-    let count : h.edges ≡ edge_count ns = edges ∙ ap (λ j. length j.links) (job_of_lem s ns b divides) ∙ length_links (edge_count ns) (drop 2 ns) four in
+    let count : h.edges ≡ edge_count ns =
+    ap (λ (h : Header). h.edges) l.counts ∙ ap (λ j. length j.links) (job_of_lem s ns b divides) ∙ length_links (edge_count ns) (drop 2 ns) four in
     record { ns = ns; divides = divides; divided = (division s ns b).1 divides; edges = count; size = omega (arith, complete, count) }
 
 taken_on : (at : ℕ) (d : Decoded) → at ≤ (taken at d).next
@@ -56,9 +54,9 @@ unfolding scan
 skip_on s zero i at = omega arith
 skip_on s (suc n) i at = omega (arith, taken_on at (decode number_bytes (drop at s)), skip_on s n (suc i) (step s i at))
 
-module _ (s : List ℕ) (h : Header) (z : h.refusal ≡ 0) (f : Found s h) where
-  pub find_none : (e : ℕ) → h.edges ≤ e → link_place h.refusal s e ≡ nowhere
-  find_none e l = rw (f.divided, eq-eqb h.refusal 0 z, le-ltb e (edge_count f.ns) (omega (arith, f.edges)))
+module _ (s : List ℕ) (h : Header) (f : Found s h) where
+  pub find_none : (e : ℕ) → h.edges ≤ e → link_place 0 s e ≡ nowhere
+  find_none e l = rw (f.divided, le-ltb e (edge_count f.ns) (omega (arith, f.edges)))
 
   -- The two ends of the part.
   module _ (e first end : ℕ) (l : e < h.edges) (p : first ≡ skipped s (4 * e + 2) 0) (q : end ≡ skipped s 4 first) where
@@ -93,8 +91,8 @@ module _ (s : List ℕ) (h : Header) (z : h.refusal ≡ 0) (f : Found s h) where
     pub part_within : first + (end - first) ≤ length s
     part_within = omega (arith, ends_order, ends_within)
 
-    pub find_place : record { offset = first; size = end - first } ≡ link_place h.refusal s e
+    pub find_place : record { offset = first; size = end - first } ≡ link_place 0 s e
     find_place =
         let size : end - first ≡ link_length f.ns e = omega (arith, at_end) in
-        rw (f.divided, eq-eqb h.refusal 0 z, lt-ltb e (edge_count f.ns) (omega (arith, f.edges)))
+        rw (f.divided, lt-ltb e (edge_count f.ns) (omega (arith, f.edges)))
         (ap₂ (λ (o n : ℕ). record { offset = o; size = n }) at_first size)

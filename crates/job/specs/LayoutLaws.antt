@@ -1,5 +1,5 @@
 -- Questions 1 to 3 by the steps of the code: the counts, and then the links in their arrays. Assumes nothing.
-use Rattle.std.specs.Prelude.{ℕ, suc, ◌*◌, ◌≤◌, ◌≡◌, refl, ◌⊎◌, true, false, List, length, take, drop}
+use Rattle.std.specs.Prelude.{ℕ, ◌*◌, ◌≤◌, ◌≡◌, refl, ◌⊎◌, true, false, List, Ok, Err, length, take, drop}
 use Rattle.std.proofs.Common.{arith, ap, ◌∙◌, inl, inr, length-append, length-drop}
 use Rattle.std.proofs.Math.Path.{sym}
 use Rattle.std.proofs.Math.Option.{Option, some, none}
@@ -13,7 +13,11 @@ use Rattle.frame.proofs.Form.{question2_means, question3_means}
 use Rattle.frame.proofs.RoundTrip.{length_links}
 use Rattle.job.specs.declared.Counts.{Counts}
 use Rattle.codec.specs.Numbers.{Divided}
-use Rattle.job.specs.Reading.{LinksLoaded, links_loaded, load_links, filled, counts_of, refused_counts, header, layout_header}
+use Rattle.limits.specs.declared.Refusal.{Refusal}
+use Rattle.limits.specs.declared.Refusal.TheVariants.{Numbers, Counts as OutOfRange, Length}
+use Rattle.limits.specs.Refusals.{number_of}
+use Rattle.limits.specs.ResultLaws.{same_ok, same_err, ok-err}
+use Rattle.job.specs.Reading.{LinksLoaded, links_loaded, load_links, filled, counts_of, Headed}
 use Rattle.job.specs.LoadLaws.{load_all}
 use Rattle.codec.specs.NumberLaws.{parts_join, drop_divides}
 
@@ -31,26 +35,26 @@ pub record CountsPassed (s : List ℕ) (k : Counts) : Type 0 where
 
 -- Either one of questions 1 to 3 refuses, or the frame divides into numbers that pass 2 and 3.
 data Case (s : List ℕ) : Type 0 where
-  refused : (r : ℕ) → counts_of (numbers s) ≡ refused_counts (suc r) → layout_refusal s ≡ suc r → Case s
+  refused : (r : Refusal) → counts_of (numbers s) ≡ Err r → layout_refusal s ≡ number_of r → Case s
   passed : (ns : List ℕ) → numbers s ≡ some ns → question2 ns ≡ true → question3 ns ≡ true → Case s
 
 case_of : (s : List ℕ) (o : Option (List ℕ)) → numbers s ≡ o → Case s
 unfolding counts_of
-case_of s none e = refused 0 (rw e) (rw e)
+case_of s none e = refused Numbers (rw e) (rw e)
 case_of s (some ns) e = second (truth (question2 ns))
   where
     third : question2 ns ≡ true → (question3 ns ≡ true) ⊎ (question3 ns ≡ false) → Case s
     third q₂ (inl q₃) = passed ns e q₂ q₃
-    third q₂ (inr q₃) = refused 2 (rw (e, q₂, q₃)) (rw (e, q₂, q₃))
+    third q₂ (inr q₃) = refused Length (rw (e, q₂, q₃)) (rw (e, q₂, q₃))
 
     second : (question2 ns ≡ true) ⊎ (question2 ns ≡ false) → Case s
     second (inl q₂) = third q₂ (truth (question3 ns))
-    second (inr q₂) = refused 1 (rw (e, q₂)) (rw (e, q₂))
+    second (inr q₂) = refused OutOfRange (rw (e, q₂)) (rw (e, q₂))
 
-passed_of : (s : List ℕ) → Bytes s → (k : Counts) → k ≡ counts_of (numbers s) → k.refusal ≡ 0 → Case s → CountsPassed s k
+passed_of : (s : List ℕ) → Bytes s → (k : Counts) → Ok k ≡ counts_of (numbers s) → Case s → CountsPassed s k
 unfolding counts_of
-passed_of s h k e z (refused r c f) = absurd (omega (arith, z, ap (λ (k : Counts). k.refusal) (e ∙ c)))
-passed_of s h k e z (passed ns d q₂ q₃) =
+passed_of s h k e (refused r c f) = absurd (ok-err k r (e ∙ c))
+passed_of s h k e (passed ns d q₂ q₃) =
     record {
       ns = ns;
       nodes = ap (λ (j : Job). j.nodes) job ∙ sym (ap (λ (k : Counts). k.nodes) counts);
@@ -69,8 +73,8 @@ passed_of s h k e z (passed ns d q₂ q₃) =
     job : job_of s ≡ job_from ns
     job = rw d
 
-    counts : k ≡ record { refusal = 0; nodes = node_count ns; edges = edge_count ns; behind = length (bytes_of (take 2 ns)) }
-    counts = e ∙ rw (d, q₂, q₃)
+    counts : k ≡ record { nodes = node_count ns; edges = edge_count ns; behind = length (bytes_of (take 2 ns)) }
+    counts = same_ok _ _ (e ∙ rw (d, q₂, q₃))
 
     edges : k.edges ≡ edge_count ns
     edges = ap (λ (k : Counts). k.edges) counts
@@ -81,28 +85,19 @@ passed_of s h k e z (passed ns d q₂ q₃) =
     four : length (drop 2 ns) ≡ 4 * edge_count ns
     four = omega (arith, length-drop 2 ns, (question3_means ns).0 q₃)
 
-pub counts_passed : (s : List ℕ) → Bytes s → (k : Counts) → k ≡ counts_of (numbers s) → k.refusal ≡ 0 → CountsPassed s k
-counts_passed s h k e z = passed_of s h k e z (case_of s (numbers s) refl)
+pub counts_passed : (s : List ℕ) → Bytes s → (k : Counts) → Ok k ≡ counts_of (numbers s) → CountsPassed s k
+counts_passed s h k e = passed_of s h k e (case_of s (numbers s) refl)
 
-refused_of :
-    (s : List ℕ) (k : Counts) →
-    k ≡ counts_of (numbers s) →
-    (k.refusal ≡ 0 → ⊥) →
-    Case s →
-    record { refusal = k.refusal; nodes = 0; edges = 0 } ≡ layout_header s
-unfolding header counts_of
-refused_of s k e z (refused r c f) =
-    ap (λ (k : Counts). record { refusal = k.refusal; nodes = 0; edges = 0 }) (e ∙ c) ∙ ap (λ (r : ℕ). header r (job_of s)) (sym f)
-refused_of s k e z (passed ns d q₂ q₃) =
-    let none : (counts_of (numbers s)).refusal ≡ 0 = rw (d, q₂, q₃) in
-    absurd (z (ap (λ (k : Counts). k.refusal) e ∙ none))
+refused_of : (s : List ℕ) (r : Refusal) → Err r ≡ counts_of (numbers s) → Case s → number_of r ≡ layout_refusal s
+unfolding counts_of
+refused_of s r e (refused q c f) = ap number_of (same_err _ _ (e ∙ c)) ∙ sym f
+refused_of s r e (passed ns d q₂ q₃) =
+    let counts : Counts = record { nodes = node_count ns; edges = edge_count ns; behind = length (bytes_of (take 2 ns)) } in
+    let right : counts_of (numbers s) ≡ Ok counts = rw (d, q₂, q₃) in
+    absurd (ok-err counts r (sym (e ∙ right)))
 
-pub counts_refused :
-    (s : List ℕ) (k : Counts) →
-    k ≡ counts_of (numbers s) →
-    (k.refusal ≡ 0 → ⊥) →
-    record { refusal = k.refusal; nodes = 0; edges = 0 } ≡ layout_header s
-counts_refused s k e z = refused_of s k e z (case_of s (numbers s) refl)
+pub counts_refused : (s : List ℕ) (r : Refusal) → Err r ≡ counts_of (numbers s) → Headed (layout_refusal s) (job_of s) (Err r)
+counts_refused s r e = record { number = refused_of s r e (case_of s (numbers s) refl); counts = tt }
 
 module _ (s : List ℕ) (k : Counts) (p : CountsPassed s k) where
   -- Behind the two counts four numbers are left for each link.
@@ -121,7 +116,5 @@ module _ (s : List ℕ) (k : Counts) (p : CountsPassed s k) where
       ap (λ (ls : List JobLink). links_loaded (length part) (filled ls 0 l.links)) (sym p.links)
 
   -- What the reader then says.
-  pub counts_read : record { refusal = 0; nodes = k.nodes; edges = k.edges } ≡ layout_header s
-  unfolding header
-  counts_read =
-      (λ i. record { refusal = 0; nodes = sym p.nodes i; edges = sym p.edges i }) ∙ sym (ap (λ (r : ℕ). header r (job_of s)) p.layout)
+  pub counts_read : Headed (layout_refusal s) (job_of s) (Ok (record { nodes = k.nodes; edges = k.edges }))
+  counts_read = record { number = sym p.layout; counts = λ i. record { nodes = sym p.nodes i; edges = sym p.edges i } }

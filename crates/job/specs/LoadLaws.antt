@@ -1,12 +1,12 @@
 -- The link reader reads what the frame's part divides into: its links stand in the arrays, and the position behind the
 -- last one is the part's end. Assumes nothing.
-use Rattle.std.specs.Prelude.{ℕ, zero, suc, ◌+◌, ◌-◌, ◌<◌, ◌≤◌, ◌*◌, ◌≡◌, length, drop}
+use Rattle.std.specs.Prelude.{ℕ, zero, suc, ◌+◌, ◌-◌, ◌<◌, ◌≤◌, ◌*◌, ◌≡◌, Some, length, drop}
 use Rattle.std.proofs.Common.{arith, sym, ap, ◌∙◌, length-drop}
 use mathlib.Core.List.{List, [], ◌∷◌, flat_map}
 use Rattle.loops.specs.Loop.{scan}
 use Rattle.loops.specs.ScanLaws.{scan_turn}
 use Rattle.leb128.specs.Positions.{read_at}
-use Rattle.leb128.specs.declared.Number.TheVariants as Read
+use Rattle.leb128.specs.declared.Number.{Number}
 use Rattle.limits.specs.Limits.{number_bytes}
 use Rattle.frame.specs.Meaning.{links_of, Divides}
 use Rattle.job.specs.Reading.{LinksLoaded, links_loaded, link_put, load_link, filled}
@@ -17,17 +17,17 @@ pub load_turn :
     (s : List ℕ) (n e : ℕ) (l whole : LinksLoaded) →
     scan (load_link s) (n - e) e l ≡ whole →
     e < n →
-    (v₁ v₂ v₃ v₄ p₁ p₂ p₃ p₄ : ℕ) →
-    read_at number_bytes s l.at ≡ Read.Value v₁ p₁ →
-    read_at number_bytes s p₁ ≡ Read.Value v₂ p₂ →
-    read_at number_bytes s p₂ ≡ Read.Value v₃ p₃ →
-    read_at number_bytes s p₃ ≡ Read.Value v₄ p₄ →
-    scan (load_link s) (n - (e + 1)) (e + 1) (links_loaded p₄ (link_put e v₁ v₂ v₃ v₄ l.links)) ≡ whole
+    (a b c k : Number) →
+    read_at number_bytes s l.at ≡ Some a →
+    read_at number_bytes s a.next ≡ Some b →
+    read_at number_bytes s b.next ≡ Some c →
+    read_at number_bytes s c.next ≡ Some k →
+    scan (load_link s) (n - (e + 1)) (e + 1) (links_loaded k.next (link_put e a.value b.value c.value k.value l.links)) ≡ whole
 unfolding load_link
-load_turn s n e l whole q k v₁ v₂ v₃ v₄ p₁ p₂ p₃ p₄ e₁ e₂ e₃ e₄ =
-    let link : load_link s e l ≡ links_loaded p₄ (link_put e v₁ v₂ v₃ v₄ l.links) =
-    rw (taken_value s l.at v₁ p₁ e₁, taken_value s p₁ v₂ p₂ e₂, taken_value s p₂ v₃ p₃ e₃, taken_value s p₃ v₄ p₄ e₄) in
-    ap (scan (load_link s) (n - (e + 1)) (e + 1)) (sym link) ∙ sym (scan_turn (load_link s) n e l k) ∙ q
+load_turn s n e l whole q h a b c k e₁ e₂ e₃ e₄ =
+    let link : load_link s e l ≡ links_loaded k.next (link_put e a.value b.value c.value k.value l.links) =
+    rw (taken_value s l.at a e₁, taken_value s a.next b e₂, taken_value s b.next c e₃, taken_value s c.next k e₄) in
+    ap (scan (load_link s) (n - (e + 1)) (e + 1)) (sym link) ∙ sym (scan_turn (load_link s) n e l h) ∙ q
 
 load_step :
     (s ns : List ℕ) (a b c k i : ℕ) (l : LinksLoaded) →

@@ -1,5 +1,5 @@
 -- What the functions that read a job frame compute. Definitions only. Assumes nothing.
-use Rattle.std.specs.Prelude.{ℕ, zero, suc, List, length, set, take}
+use Rattle.std.specs.Prelude.{ℕ, ◌≡◌, List, Result, Ok, Err, IfOk, length, set, take}
 use Rattle.std.proofs.Math.Option.{Option, some, none}
 use Rattle.std.proofs.lemmas.List.Edits.{sets}
 use Rattle.loops.specs.Loop.{scan}
@@ -7,7 +7,10 @@ use Rattle.loops.specs.Below.{choose}
 use Rattle.frame.specs.Job.{JobLink, Job, bytes_of}
 use Rattle.frame.specs.Meaning.{node_count, edge_count}
 use Rattle.frame.specs.Questions.{job_of, question2, question3, layout_refusal}
-use Rattle.codec.specs.declared.Taken.{Taken}
+use Rattle.leb128.specs.declared.Number.{Number}
+use Rattle.limits.specs.declared.Refusal.{Refusal}
+use Rattle.limits.specs.declared.Refusal.TheVariants.{Numbers, Counts as OutOfRange, Length}
+use Rattle.limits.specs.Refusals.{refusal_in}
 use Rattle.job.specs.declared.Counts.{Counts}
 use Rattle.job.specs.declared.Header.{Header}
 use Rattle.codec.specs.Numbers.{taken_at}
@@ -32,36 +35,35 @@ filled ls e c = columns (sets c.end₁ e (firsts ls)) (sets c.end₂ e (seconds 
 -- Link e read into its place; the links of a frame's part behind the two counts.
 unfoldable pub load_link : List ℕ → ℕ → LinksLoaded → LinksLoaded
 load_link s e l =
-    let a : Taken = taken_at s l.at in
-    let b : Taken = taken_at s a.next in
-    let c : Taken = taken_at s b.next in
-    let m : Taken = taken_at s c.next in
+    let a : Number = taken_at s l.at in
+    let b : Number = taken_at s a.next in
+    let c : Number = taken_at s b.next in
+    let m : Number = taken_at s c.next in
     links_loaded m.next (link_put e a.value b.value c.value m.value l.links)
 
 abbrev pub load_links : List ℕ → ℕ → LinksLoaded → LinksLoaded
 load_links s n l = scan (load_link s) n 0 l
 
 -- Questions 1 to 3: the refusal, or the two counts and the position behind them.
-abbrev pub refused_counts : ℕ → Counts
-refused_counts r = record { refusal = r; nodes = 0; edges = 0; behind = 0 }
-
-unfoldable pub counts_of : Option (List ℕ) → Counts
-counts_of none = refused_counts 1
+unfoldable pub counts_of : Option (List ℕ) → Result Counts Refusal
+counts_of none = Err Numbers
 counts_of (some ns) =
     choose (question2 ns)
     (λ _. choose (question3 ns)
-    (λ _. record { refusal = 0; nodes = node_count ns; edges = edge_count ns; behind = length (bytes_of (take 2 ns)) })
-    (λ _. refused_counts 3))
-    (λ _. refused_counts 2)
+    (λ _. Ok (record { nodes = node_count ns; edges = edge_count ns; behind = length (bytes_of (take 2 ns)) }))
+    (λ _. Err Length))
+    (λ _. Err OutOfRange)
 
--- A refusal has no counts.
-abbrev pub refused_header : ℕ → Header
-refused_header r = record { refusal = r; nodes = 0; edges = 0 }
+-- The two counts of a job.
+abbrev pub header_of : Job → Header
+header_of j = record { nodes = j.nodes; edges = length j.links }
 
--- A refusal, or the two counts; those by questions 1 to 3 of a frame.
-unfoldable pub header : ℕ → Job → Header
-header zero j = record { refusal = 0; nodes = j.nodes; edges = length j.links }
-header (suc r) j = record { refusal = suc r; nodes = 0; edges = 0 }
+-- A reader of the job j, to which the first "no" is number n, or 0: it tells that number, and without a refusal the two counts.
+pub record Headed (n : ℕ) (j : Job) (r : Result Header Refusal) : Type 0 where
+  pub number : refusal_in r ≡ n
+  pub counts : IfOk r (λ h. h ≡ header_of j)
 
-abbrev pub layout_header : List ℕ → Header
-layout_header s = header (layout_refusal s) (job_of s)
+-- The frame s passes questions 1 to 3, and its counts are these.
+pub record Laid (s : List ℕ) (h : Header) : Type 0 where
+  pub passed : layout_refusal s ≡ 0
+  pub counts : h ≡ header_of (job_of s)

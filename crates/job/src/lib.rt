@@ -1,31 +1,30 @@
 // Reads a job frame into arrays for 256 links, or refuses it by questions 1 to 3; finds one link's four numbers in it.
 #![tactic(auto)]
 
-ghost use Rattle.std.specs.Prelude.{◌≡◌, ◌+◌, ◌*◌, ◌≤◌, ◌<◌, length};
-ghost use Rattle.frame.specs.Questions.{numbers, job_of};
+ghost use Rattle.std.specs.Prelude.{◌≡◌, ◌+◌, ◌*◌, ◌≤◌, length, IfOk};
+ghost use Rattle.limits.specs.Refusals.{refusal_in};
+ghost use Rattle.frame.specs.Questions.{numbers, job_of, layout_refusal};
 ghost use Rattle.codec.specs.Numbers.{Divided, place_of};
-ghost use Rattle.job.specs.Reading.{refused_header, links_loaded, load_links, refused_counts, counts_of, layout_header, filled};
+ghost use Rattle.job.specs.Reading.{links_loaded, load_links, counts_of, Headed, Laid, filled};
 ghost use Rattle.frame.specs.Arrays.{columns};
 ghost use Rattle.frame.specs.Replies.{link_place};
 
 use codec::{Part, number_at, skip};
-use division::{Numbers, count_numbers};
+use division::count_numbers;
 use ids::Edge;
-use limits::{MOST_EDGES, MOST_NODES};
+use limits::{MOST_EDGES, MOST_NODES, Refusal};
 
-// The refusal by questions 1 to 3; or 0, the two counts and the position behind them.
+// The two counts of a frame and the position behind them.
 #[derive(Clone, Copy)]
 pub struct Counts {
-    pub refusal: u32,
     pub nodes: u32,
     pub edges: u32,
     pub behind: usize,
 }
 
-// A refusal; or 0 and the two counts.
+// The two counts of a job.
 #[derive(Clone, Copy)]
 pub struct Header {
-    pub refusal: u32,
     pub nodes: u32,
     pub edges: u32,
 }
@@ -46,8 +45,7 @@ pub fn read_links(
         ≡ load_links part.now edges (links_loaded 0 (columns end1.old end2.old cost.old mark.old)) }
 {
     let mut at: usize = 0;
-    let mut e: usize = 0;
-    while e < edges {
+    for e in 0..edges {
         let a = leb128::read_known(part, at);
         let b = leb128::read_known(part, a.next);
         let c = leb128::read_known(part, b.next);
@@ -57,64 +55,37 @@ pub fn read_links(
         cost[e] = c.value;
         mark[e] = m.value;
         at = m.next;
-        e += 1;
     }
     at
 }
 
-fn refused_counts(refusal: u32) -> Counts
-    ensures { result ≡ refused_counts refusal }
-{
-    Counts {
-        refusal: refusal,
-        nodes: 0,
-        edges: 0,
-        behind: 0,
-    }
-}
-
 // Questions 1 to 3, each put to the whole frame.
-pub fn read_counts(frame: &[u8]) -> Counts
+pub fn read_counts(frame: &[u8]) -> Result<Counts, Refusal>
     ensures { result ≡ counts_of (numbers frame.now) }
 {
-    let numbers = count_numbers(frame);
-    let Numbers::Count(count) = numbers else {
-        return refused_counts(1);
-    };
+    let count = count_numbers(frame).ok_or(Refusal::Numbers)?;
     if count < 2 {
-        return refused_counts(2);
+        return Err(Refusal::Counts);
     }
     let nodes = number_at(frame, 0);
     let edges = number_at(frame, nodes.next);
     if nodes.value < 1 {
-        return refused_counts(2);
+        return Err(Refusal::Counts);
     }
     if MOST_NODES < nodes.value {
-        return refused_counts(2);
+        return Err(Refusal::Counts);
     }
     if MOST_EDGES < edges.value {
-        return refused_counts(2);
+        return Err(Refusal::Counts);
     }
     if count != 4 * (edges.value as usize) + 2 {
-        return refused_counts(3);
+        return Err(Refusal::Length);
     }
-    Counts {
-        refusal: 0,
+    Ok(Counts {
         nodes: nodes.value,
         edges: edges.value,
         behind: edges.next,
-    }
-}
-
-// A refusal has no counts.
-pub fn refused_header(refusal: u32) -> Header
-    ensures { result ≡ refused_header refusal }
-{
-    Header {
-        refusal: refusal,
-        nodes: 0,
-        edges: 0,
-    }
+    })
 }
 
 // Reads a job frame: the first refusal of questions 1 to 3; or the counts, with the links in the arrays.
@@ -124,40 +95,34 @@ pub fn load_job(
     end2: &mut [u32; 256],
     cost: &mut [u32; 256],
     mark: &mut [u32; 256],
-) -> Header
-    ensures header { result ≡ layout_header frame.now }
-    ensures links { result.refusal ≡ 0 → columns end1.new end2.new cost.new mark.new
-        ≡ filled (job_of frame.now).links 0 (columns end1.old end2.old cost.old mark.old) }
+) -> Result<Header, Refusal>
+    ensures header { Headed (layout_refusal frame.now) (job_of frame.now) result }
+    ensures links { IfOk result (λ _. columns end1.new end2.new cost.new mark.new
+        ≡ filled (job_of frame.now).links 0 (columns end1.old end2.old cost.old mark.old)) }
 {
-    let counts = read_counts(frame);
-    let refusal = counts.refusal;
-    if refusal != 0 {
-        return refused_header(refusal);
-    }
+    let counts = read_counts(frame)?;
     let behind = counts.behind;
     let part = &frame[behind..];
     let edges = counts.edges as usize;
     read_links(part, edges, end1, end2, cost, mark);
-    Header {
-        refusal: 0,
+    Ok(Header {
         nodes: counts.nodes,
         edges: counts.edges,
-    }
+    })
 }
 
 // Where a link's bytes stand; nowhere, of length 0, if the frame is refused or has no such link.
-pub fn link_part(frame: &[u8], header: Header, edge: Edge) -> Part
-    requires { header.refusal ≡ 0 → header ≡ layout_header frame.now }
-    ensures place { place_of result ≡ link_place header.refusal frame.now edge.0 }
+pub fn link_part(frame: &[u8], accepted: Result<Header, Refusal>, edge: Edge) -> Part
+    requires { IfOk accepted (λ h. Laid frame.now h) }
+    ensures place { place_of result ≡ link_place (refusal_in accepted) frame.now edge.0 }
     ensures within { result.offset + result.length ≤ length frame.now }
 {
-    let refusal = header.refusal;
-    if refusal != 0 {
+    let Ok(header) = accepted else {
         return Part {
             offset: 0,
             length: 0,
         };
-    }
+    };
     let edges = header.edges;
     let e = edge.0;
     if edges <= e {
