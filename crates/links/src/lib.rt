@@ -3,11 +3,12 @@
 
 ghost use Rattle.std.specs.Prelude.{◌≡◌, ◌≤◌, min};
 ghost use Rattle.limits.specs.Limits.{max_edges};
+ghost use Rattle.limits.specs.Refusals.{refusal_in};
 ghost use Rattle.links.specs.Columns.{ends_apart, ends_hold, marks_hold, links_refusal, Places, links_small};
 ghost use Rattle.frame.specs.Arrays.{columns, job_at};
 ghost use Rattle.frame.specs.Questions.{list_layout_refusal};
 
-use limits::{MOST_COUNT, MOST_LENGTH, MOST_NODES, MOST_NUMBER, UNPLUGGED_MARK};
+use limits::{MOST_COUNT, MOST_LENGTH, MOST_NODES, MOST_NUMBER, Refusal, UNPLUGGED_MARK};
 
 // Question 4 of one link.
 fn ends_apart(nodes: u32, a: u32, b: u32) -> bool
@@ -52,26 +53,26 @@ fn marks_hold(edges: usize, mark: &[u32; 256]) -> bool
     holds
 }
 
-// Questions 4 and 5 over arrays: the first refusal of the two, or 0.
-pub fn links_refusal(
+// Questions 4 and 5 over arrays, in this order.
+pub fn check_links(
     nodes: u32,
     edges: usize,
     end1: &[u32; 256],
     end2: &[u32; 256],
     mark: &[u32; 256],
-) -> u32
+) -> Result<(), Refusal>
     requires { edges ≤ 256 }
-    ensures { result ≡ links_refusal nodes edges end1.now end2.now mark.now }
+    ensures { refusal_in result ≡ links_refusal nodes edges end1.now end2.now mark.now }
 {
     let apart = ends_hold(nodes, edges, end1, end2);
     let marked = marks_hold(edges, mark);
     if !apart {
-        return 4;
+        return Err(Refusal::Ends);
     }
     if !marked {
-        return 5;
+        return Err(Refusal::Marks);
     }
-    0
+    Ok(())
 }
 
 // Question 1 over arrays: every number of the first `edges` links is at most 2,097,151.
@@ -114,7 +115,7 @@ fn held(edges: usize) -> usize
     MOST_COUNT
 }
 
-// The first refusal of questions 1 and 2 for links in arrays; question 3 is met. Of more than 256 links the arrays hold
+// Questions 1 and 2 for links in arrays; question 3 is met. Of more than 256 links the arrays hold
 // the first 256, and the others' numbers have to be small.
 pub fn check_list(
     nodes: u32,
@@ -123,28 +124,28 @@ pub fn check_list(
     end2: &[u32; 256],
     cost: &[u32; 256],
     mark: &[u32; 256],
-) -> u32
+) -> Result<(), Refusal>
     requires { Places (columns end1.now end2.now cost.now mark.now) }
-    ensures { result ≡ list_layout_refusal (job_at nodes edges (columns end1.now end2.now cost.now mark.now)) }
+    ensures { refusal_in result ≡ list_layout_refusal (job_at nodes edges (columns end1.now end2.now cost.now mark.now)) }
 {
     if MOST_NUMBER < nodes {
-        return 1;
+        return Err(Refusal::Numbers);
     }
     if MOST_LENGTH < edges {
-        return 1;
+        return Err(Refusal::Numbers);
     }
     let n = held(edges);
     if !links_small(n, end1, end2, cost, mark) {
-        return 1;
+        return Err(Refusal::Numbers);
     }
     if nodes < 1 {
-        return 2;
+        return Err(Refusal::Counts);
     }
     if MOST_NODES < nodes {
-        return 2;
+        return Err(Refusal::Counts);
     }
     if MOST_COUNT < edges {
-        return 2;
+        return Err(Refusal::Counts);
     }
-    0
+    Ok(())
 }
