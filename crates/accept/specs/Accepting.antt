@@ -1,5 +1,6 @@
 -- A job frame accepted into arrays. Definitions only. Assumes nothing.
-use Rattle.std.specs.Prelude.{ℕ, ◌≡◌, Bool, true, false, List, length}
+use Rattle.std.specs.Prelude.{ℕ, ◌≡◌, Bool, true, false, List, Result, IfOk, length}
+use Rattle.limits.specs.declared.Refusal.{Refusal}
 use Rattle.number.specs.Number.{Bytes}
 use Rattle.frame.specs.Job.{Job}
 use Rattle.frame.specs.Arrays.{Arrays}
@@ -7,7 +8,7 @@ use Rattle.frame.specs.Questions.{job_of, ask, question6, refusal}
 use Rattle.held.specs.Held.{Stored, Held}
 use Rattle.links.specs.ColumnLaws.{zeros}
 use Rattle.job.specs.declared.Header.{Header}
-use Rattle.job.specs.Reading.{header}
+use Rattle.job.specs.Reading.{Headed}
 
 -- Links of zeros, and room for 256 ranks.
 pub record Empty (a : Arrays) : Type 0 where
@@ -21,21 +22,17 @@ pub record Empty (a : Arrays) : Type 0 where
 abbrev pub tree_refusal : Job → ℕ
 tree_refusal j = ask (question6 j) 6 λ _. 0
 
--- The refusal of questions 1 to 6, or the counts.
-abbrev pub accepted_header : List ℕ → Header
-accepted_header s = header (refusal s) (job_of s)
-
 -- What the arrays hold of an accepted job: its tree links by rank and its tree paths with its links, or its links alone.
 abbrev pub HeldAs : Bool → Job → ℕ → ℕ → Arrays → Type 0
 HeldAs true j nodes edges a = Held j nodes edges a
 HeldAs false j nodes edges a = Stored j nodes edges a.links
 
 -- The frame s has been asked questions 1 to 6: what they said, and an accepted job in the arrays.
-pub record Asked (s : List ℕ) (h : Header) (a : Arrays) : Type 0 where
+pub record Asked (s : List ℕ) (r : Result Header Refusal) (a : Arrays) : Type 0 where
   pub bytes : Bytes s
-  pub header_is : h ≡ accepted_header s
-  pub held : h.refusal ≡ 0 → Held (job_of s) h.nodes h.edges a
+  pub headed : Headed (refusal s) (job_of s) r
+  pub held : IfOk r (λ h. Held (job_of s) h.nodes h.edges a)
 
 -- Where they have accepted, the arrays hold a job.
-abbrev pub SomeHeld : Header → Arrays → Type 0
-SomeHeld h a = h.refusal ≡ 0 → (j : Job) × Held j h.nodes h.edges a
+abbrev pub SomeHeld : Result Header Refusal → Arrays → Type 0
+SomeHeld r a = IfOk r (λ h. (j : Job) × Held j h.nodes h.edges a)

@@ -2,18 +2,21 @@
 // for.
 #![tactic(auto)]
 
-ghost use Rattle.std.specs.Prelude.{◌≡◌, length};
+ghost use Rattle.std.specs.Prelude.{◌≡◌, length, IfOk, OnOk};
+ghost use Rattle.limits.specs.Refusals.{refusal_in};
 ghost use Rattle.frame.specs.Job.{Job};
-ghost use Rattle.frame.specs.Questions.{job_of, job_refusal};
+ghost use Rattle.frame.specs.Questions.{job_of, job_refusal, refusal};
 ghost use Rattle.frame.specs.Arrays.{columns, arrays};
 ghost use Rattle.held.specs.Held.{Stored};
-ghost use Rattle.accept.specs.Accepting.{Empty, HeldAs, accepted_header};
+ghost use Rattle.job.specs.Reading.{Headed};
+ghost use Rattle.accept.specs.Accepting.{Empty, HeldAs};
 
-use job::{Header, refused_header};
+use job::Header;
+use limits::Refusal;
 
-// The first refusal of questions 4 to 6 for a job in arrays that has passed the others; or 0, and then, if the tree links are to be
-// ranked, their ranks and paths are found. Question 6 is put to them in any order.
-pub fn job_refusal(
+// Questions 4 to 6 for a job in arrays that has passed the others. If the tree links are to be ranked, an accepted job's ranks and
+// paths are found. Question 6 is put to the tree links in any order.
+pub fn check_job(
     nodes: u32,
     edges: usize,
     end1: &[u32; 256],
@@ -23,24 +26,21 @@ pub fn job_refusal(
     ts: &mut [u32; 256],
     mask: &mut [u64; 64],
     ranked: bool,
-) -> u32
+) -> Result<(), Refusal>
     requires stored { (j : Job) × Stored j nodes edges (columns end1.now end2.now cost.now mark.now) }
     requires ts_len { length ts.old ≡ 256 }
     ensures refusal { (j : Job) → Stored j nodes edges (columns end1.now end2.now cost.now mark.now)
-        → result ≡ job_refusal j }
+        → refusal_in result ≡ job_refusal j }
     ensures held { (j : Job) → Stored j nodes edges (columns end1.now end2.now cost.now mark.now)
-        → result ≡ 0 → HeldAs ranked j nodes edges
-        (arrays end1.now end2.now cost.now mark.now ts.new mask.new) }
+        → OnOk result (HeldAs ranked j nodes edges
+        (arrays end1.now end2.now cost.now mark.now ts.new mask.new)) }
 {
-    let wrong = links::links_refusal(nodes, edges, end1, end2, mark);
-    if wrong != 0 {
-        return wrong;
-    }
+    links::check_links(nodes, edges, end1, end2, mark)?;
     let count = ranks::tree_edges(ranked, edges, cost, mark, ts);
     if !paths::question6(nodes, ts, count, end1, end2, mask) {
-        return 6;
+        return Err(Refusal::Tree);
     }
-    0
+    Ok(())
 }
 
 // The first refusal of questions 1 to 6; or the counts, with the job in the arrays.
@@ -53,19 +53,15 @@ pub fn accept(
     ts: &mut [u32; 256],
     mask: &mut [u64; 64],
     ranked: bool,
-) -> Header
+) -> Result<Header, Refusal>
     requires { Empty (arrays end1.old end2.old cost.old mark.old ts.old mask.old) }
-    ensures header { result ≡ accepted_header frame.now }
-    ensures job { result.refusal ≡ 0 → HeldAs ranked (job_of frame.now) result.nodes result.edges
-        (arrays end1.new end2.new cost.new mark.new ts.new mask.new) }
+    ensures header { Headed (refusal frame.now) (job_of frame.now) result }
+    ensures job { IfOk result (λ h. HeldAs ranked (job_of frame.now) h.nodes h.edges
+        (arrays end1.new end2.new cost.new mark.new ts.new mask.new)) }
 {
-    let header = job::load_job(frame, end1, end2, cost, mark);
-    let refusal = header.refusal;
-    if refusal != 0 {
-        return header;
-    }
+    let header = job::load_job(frame, end1, end2, cost, mark)?;
     let edges = header.edges as usize;
-    let wrong = job_refusal(
+    check_job(
         header.nodes,
         edges,
         end1,
@@ -75,9 +71,6 @@ pub fn accept(
         ts,
         mask,
         ranked,
-    );
-    if wrong != 0 {
-        return refused_header(wrong);
-    }
-    header
+    )?;
+    Ok(header)
 }
