@@ -1,18 +1,18 @@
 -- What the reader hands back, written again, is the frame; what the writer puts into an area reads as the links that were
 -- written. Assumes nothing.
 use Rattle.std.specs.Prelude.{ℕ, ◌+◌, ◌<◌, ◌≤◌, ◌≡◌, refl, List, length, get_or, take, drop}
-use Rattle.std.proofs.Common.{arith, sym, ap, ap₂, ◌∙◌, take_at, ext_get_or}
+use Rattle.std.proofs.Common.{arith, sym, ap, ◌∙◌, take_at, ext_get_or}
 use Rattle.std.proofs.lemmas.List.Edits.{sets, sets-eq}
 use Rattle.loops.specs.GatherLaws.{get_d_tabulate}
 use Rattle.number.specs.Number.{Bytes}
 use Rattle.frame.specs.Job.{JobLink, no_link, job_frame}
-use Rattle.frame.specs.Questions.{job_of, form_refusal, list_layout_refusal}
+use Rattle.frame.specs.Questions.{job_of, form_refusal, layout_refusal, list_layout_refusal}
 use Rattle.frame.proofs.RoundTrip.{links_few, write_read}
 use Rattle.frame.proofs.Lists.{layout_as_frame, layout_listed, list_read}
 use Rattle.frame.specs.Arrays.{Columns, link_at, links_at, job_at}
 use Rattle.links.specs.Columns.{Places}
 use Rattle.links.specs.ColumnLaws.{column, rows_length}
-use Rattle.job.specs.Reading.{filled, header, layout_header}
+use Rattle.job.specs.Reading.{filled, header_of, Laid}
 
 -- Links put into arrays are the arrays' links.
 module _ (ls : List JobLink) (c : Columns) (p : Places c) (few : length ls ≤ 256) where
@@ -49,9 +49,12 @@ pub links_again :
     let j = job_at nodes edges c in
     list_layout_refusal j ≡ 0 →
     length (job_frame j) ≤ length area →
-    layout_header (take (length (job_frame j)) (sets area 0 (job_frame j))) ≡ header 0 j
+    Laid (take (length (job_frame j)) (sets area 0 (job_frame j))) (header_of j)
 links_again nodes edges c area z room =
     let j = job_at nodes edges c in
     let bytes : take (length (job_frame j)) (sets area 0 (job_frame j)) ≡ job_frame j = front (job_frame j) area room in
     let y = (layout_listed j z).0 in
-    ap layout_header bytes ∙ ap₂ header (sym (layout_as_frame j y) ∙ z) (list_read j y)
+    record {
+      passed = ap layout_refusal bytes ∙ sym (layout_as_frame j y) ∙ z;
+      counts = sym (ap (λ (s : List ℕ). header_of (job_of s)) bytes ∙ ap header_of (list_read j y));
+    }

@@ -1,7 +1,8 @@
 // Writes the job frame of links held in arrays, group by group, so that its numbers need not be listed first.
 #![tactic(auto)]
 
-ghost use Rattle.std.specs.Prelude.{◌≡◌, ◌+◌, ◌<◌, ◌≤◌, length};
+ghost use Rattle.std.specs.Prelude.{◌≡◌, ◌+◌, ◌<◌, ◌≤◌, length, OnOk};
+ghost use Rattle.limits.specs.Refusals.{refusal_in};
 ghost use Rattle.std.proofs.lemmas.List.Edits.{sets};
 ghost use Rattle.frame.specs.Job.{fields, job_frame};
 ghost use Rattle.frame.specs.Services.{written};
@@ -9,7 +10,7 @@ ghost use Rattle.frame.specs.Arrays.{columns, link_at, job_at};
 ghost use Rattle.codec.specs.Numbers.{numbers_at, outcome};
 ghost use Rattle.job_write.specs.Groups.{group};
 
-use codec::{Reply, refused};
+use limits::Refusal;
 
 // Numbers of a job frame that stand together: the two counts, or the four of a link.
 #[derive(Clone, Copy)]
@@ -57,10 +58,7 @@ fn group_at(
         };
     }
     let numbers = link_numbers(i - 1, end1, end2, cost, mark);
-    Group {
-        numbers: numbers,
-        count: 4,
-    }
+    Group { numbers, count: 4 }
 }
 
 // How many bytes the job frame takes.
@@ -76,11 +74,9 @@ fn frame_size(
     ensures { result ≡ length (job_frame (job_at nodes edges (columns end1.now end2.now cost.now mark.now))) }
 {
     let mut total: usize = 0;
-    let mut i: usize = 0;
-    while i <= edges {
+    for i in 0..edges + 1 {
         let g = group_at(i, nodes, edges, end1, end2, cost, mark);
         total += codec::numbers_size(&g.numbers, g.count);
-        i += 1;
     }
     total
 }
@@ -102,17 +98,15 @@ fn put_frame(
         (job_frame (job_at nodes edges (columns end1.now end2.now cost.now mark.now))) }
 {
     let mut next = at;
-    let mut i: usize = 0;
-    while i <= edges {
+    for i in 0..edges + 1 {
         let g = group_at(i, nodes, edges, end1, end2, cost, mark);
         next = codec::write_numbers(area, next, &g.numbers, g.count);
-        i += 1;
     }
 }
 
-// Writes the job frame of links in arrays at a position of the area, unless they were refused before; question 7.
+// Writes the job frame of links in arrays at a position of the area, unless they were refused before; question 7. Gives the length.
 pub fn write_job(
-    refusal: u32,
+    earlier: Result<(), Refusal>,
     nodes: u32,
     edges: usize,
     end1: &[u32; 256],
@@ -121,25 +115,20 @@ pub fn write_job(
     mark: &[u32; 256],
     area: &mut [u8],
     at: usize,
-) -> Reply
-    requires { refusal ≡ 0 → edges ≤ 256 }
+) -> Result<usize, Refusal>
+    requires { OnOk earlier (edges ≤ 256) }
     ensures { outcome result area.new
-        ≡ written refusal (job_frame (job_at nodes edges (columns end1.now end2.now cost.now mark.now))) at
+        ≡ written (refusal_in earlier) (job_frame (job_at nodes edges (columns end1.now end2.now cost.now mark.now))) at
         area.old }
 {
-    if refusal != 0 {
-        return refused(refusal);
-    }
+    earlier?;
     let size = frame_size(nodes, edges, end1, end2, cost, mark);
     if area.len() < at {
-        return refused(7);
+        return Err(Refusal::Room);
     }
     if area.len() - at < size {
-        return refused(7);
+        return Err(Refusal::Room);
     }
     put_frame(area, at, nodes, edges, end1, end2, cost, mark);
-    Reply {
-        refusal: 0,
-        length: size,
-    }
+    Ok(size)
 }

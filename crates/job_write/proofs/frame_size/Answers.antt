@@ -16,7 +16,7 @@ few_bytes size count ns e l = omega (arith, e, size_short ns count)
 
 pub loop-i-init : goal.loop-i-init
 unfolding gather flat_map
-loop-i-init c = (omega arith, refl, omega arith)
+loop-i-init c = (refl, omega arith)
 
 pub overflow_add-total : goal.overflow_add-total
 overflow_add-total c =
@@ -31,7 +31,6 @@ pub loop-i-preserved : goal.loop-i-preserved
 loop-i-preserved c =
     let held = columns c.args.end1.now c.args.end2.now c.args.cost.now c.args.mark.now in
     let g = c.group_at-g in (
-      omega arith,
       omega (
         arith,
         c.numbers_size-total.ensures,
@@ -44,4 +43,4 @@ pub returns : goal.returns
 returns c =
     let held = columns c.args.end1.now c.args.end2.now c.args.cost.now c.args.mark.now in
     let all : c.loop-i.i ≡ c.args.edges + 1 = omega arith in
-    rw all at c.loop-i.invariant.1 ∙ ap length (frame_grouped c.args.nodes c.args.edges held)
+    rw all at c.loop-i.invariant.0 ∙ ap length (frame_grouped c.args.nodes c.args.edges held)

@@ -1,5 +1,4 @@
 -- The loop's invariant: the groups passed are put, one behind the other.
-use Rattle.std.proofs.Common.{◌≤◌, ◌+◌, ◌-◌}
 use Rattle.frame.specs.Arrays.{columns}
 use Rattle.codec.specs.Numbers.{Put}
 use Rattle.job_write.specs.Groups.{groups_bytes, group}
@@ -7,7 +6,4 @@ use Rattle.job_write.proofs.put_frame.Given as goal
 
 abbrev pub invariant-loop-i : goal.invariant-loop-i
 invariant-loop-i l =
-    (l.i ≤ l.edges + 1) × Put l.fn.area l.at (groups_bytes (group l.nodes l.edges (columns l.end1 l.end2 l.cost l.mark)) l.i) l.next l.area
-
-abbrev pub decreases-loop-i : goal.decreases-loop-i
-decreases-loop-i l = l.edges + 1 - l.i
+    Put l.fn.area l.at (groups_bytes (group l.nodes l.edges (columns l.end1 l.end2 l.cost l.mark)) l.i) l.next l.area
