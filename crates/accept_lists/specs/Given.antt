@@ -1,5 +1,5 @@
 -- What is said of what is given of a list of records. Definitions only. Assumes nothing.
-use Rattle.std.specs.Prelude.{ℕ, ◌≡◌, ◌≢◌, Bool, true, false, ◌&&◌, leb, take}
+use Rattle.std.specs.Prelude.{ℕ, ◌≡◌, ◌≢◌, Bool, true, false, ◌&&◌, Result, leb, take}
 use Rattle.records.specs.declared.ListCopy.{ListCopy}
 use Rattle.frame.specs.Job.{Job, job_frame}
 use Rattle.limits.specs.Limits.{max_edges, max_number}
@@ -7,7 +7,8 @@ use Rattle.frame.specs.Arrays.{Arrays}
 use Rattle.frame.specs.Questions.{ask}
 use Rattle.frame.specs.Services.{small}
 use Rattle.job.specs.declared.Header.{Header}
-use Rattle.job.specs.Reading.{refused_header}
+use Rattle.limits.specs.declared.Refusal.{Refusal}
+use Rattle.limits.specs.Refusals.{refusal_in}
 use Rattle.accept.specs.Accepting.{Asked}
 use Rattle.accept.specs.ListJobs.{list_job}
 
@@ -30,6 +31,6 @@ pub record Given (nodes : ℕ) (list : ListCopy) (Refused : ℕ → Type 0) (Sai
   pub said : given_refusal nodes list ≡ 0 → Said (list_job nodes (take list.count list.links))
 
 -- A list whose numbers are small is accepted as its frame is; any other is refused by question 1.
-pub record ListAccepted (j : Job) (h : Header) (a : Arrays) : Type 0 where
-  pub large : small j ≡ false → h ≡ refused_header 1
-  pub asked : small j ≡ true → Asked (job_frame j) h a
+pub record ListAccepted (j : Job) (r : Result Header Refusal) (a : Arrays) : Type 0 where
+  pub large : small j ≡ false → refusal_in r ≡ 1
+  pub asked : small j ≡ true → Asked (job_frame j) r a

@@ -1,18 +1,19 @@
 -- A list of records is accepted as its frame is. Assumes nothing.
-use Rattle.std.specs.Prelude.{ℕ, ◌≡◌, true, false}
-use Rattle.std.proofs.Common.{sym, ap, ap₂, subst, ◌∙◌}
+use Rattle.std.specs.Prelude.{ℕ, ◌≡◌, true, false, Result, Ok, Err}
+use Rattle.std.proofs.Common.{sym, ap, subst, ◌∙◌}
 use Rattle.loops.specs.TestLaws.{clash}
 use Rattle.frame.specs.Job.{Job, job_numbers, job_frame}
 use Rattle.frame.specs.Arrays.{Arrays}
-use Rattle.frame.specs.Questions.{job_of, refusal, list_refusal}
+use Rattle.frame.specs.Questions.{refusal, list_refusal}
 use Rattle.frame.specs.Services.{small}
 use Rattle.frame.proofs.Lists.{list_as_frame, list_passed, list_read}
 use Rattle.frame.proofs.Accepted.{numbers_bytes}
 use Rattle.held.specs.Held.{Held}
 use Rattle.job.specs.declared.Header.{Header}
-use Rattle.job.specs.Reading.{header, refused_header}
+use Rattle.limits.specs.declared.Refusal.{Refusal}
+use Rattle.limits.specs.Refusals.{number_of, refusal_in}
+use Rattle.job.specs.Reading.{header_of}
 use Rattle.accept.specs.Accepting.{tree_refusal}
-use Rattle.accept.specs.AcceptLaws.{refused_header_lem}
 use Rattle.accept_lists.specs.Given.{ListAccepted}
 
 -- The first refusal of a list whose numbers are small is its frame's; of any other it is 1.
@@ -23,39 +24,39 @@ pub large_number : (j : Job) → small j ≡ false → list_refusal j ≡ 1
 large_number j f = rw f
 
 -- What is said of a refused list, and of an accepted one.
-pub list_refused :
-    (j : Job) (r : ℕ) (h : Header) (a : Arrays) → r ≡ list_refusal j → (r ≡ 0 → ⊥) → h ≡ refused_header r → ListAccepted j h a
-list_refused j r h a e n is =
+pub list_refused : (j : Job) (r : Refusal) (a : Arrays) → number_of r ≡ list_refusal j → ListAccepted j (Err r) a
+list_refused j r a e =
     record {
-      large = λ f. is ∙ ap refused_header (e ∙ large_number j f);
+      large = λ f. e ∙ large_number j f;
       asked = λ y.
           record {
             bytes = numbers_bytes (job_numbers j);
-            header_is =
-                is ∙ refused_header_lem r (job_of (job_frame j)) n ∙
-                ap (λ (k : ℕ). header k (job_of (job_frame j))) (e ∙ sym (frame_number j y));
-            held = λ z. absurd (n (sym (ap (λ (h : Header). h.refusal) is) ∙ z));
+            headed = record { number = e ∙ sym (frame_number j y); counts = tt };
+            held = tt;
           };
     }
 
 pub list_held :
     (j : Job) (nodes edges : ℕ) (a : Arrays) → list_refusal j ≡ 0 → Held j nodes edges a →
-    ListAccepted j (record { refusal = 0; nodes = nodes; edges = edges }) a
-unfolding header
+    ListAccepted j (Ok (record { nodes = nodes; edges = edges })) a
 list_held j nodes edges a e hold =
     let y = (list_passed tree_refusal j e).0.small in
     record {
-      large = λ f. clash y f;
+      large = λ f. absurd (clash y f);
       asked = λ _.
           record {
             bytes = numbers_bytes (job_numbers j);
-            header_is =
-                (λ i. record { refusal = 0; nodes = hold.stored.nodes_are i; edges = hold.stored.edges_are i }) ∙
-                ap₂ header (sym (frame_number j y ∙ e)) (sym (list_read j y));
-            held = λ _. subst (λ (k : Job). Held k nodes edges a) (sym (list_read j y)) hold;
+            headed =
+                record {
+                  number = sym (frame_number j y ∙ e);
+                  counts =
+                      (λ i. record { nodes = hold.stored.nodes_are i; edges = hold.stored.edges_are i }) ∙
+                      sym (ap header_of (list_read j y));
+                };
+            held = subst (λ (k : Job). Held k nodes edges a) (sym (list_read j y)) hold;
           };
     }
 
 -- A large number is refused by question 1.
-pub asked_large : {j : Job} {h : Header} {a : Arrays} → small j ≡ false → ListAccepted j h a → h.refusal ≡ 1
-asked_large n k = ap (λ (h : Header). h.refusal) (k.large n)
+pub asked_large : {j : Job} {r : Result Header Refusal} {a : Arrays} → small j ≡ false → ListAccepted j r a → refusal_in r ≡ 1
+asked_large n k = k.large n

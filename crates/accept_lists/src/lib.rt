@@ -1,22 +1,21 @@
 // Questions 1 to 6, put to a list of links; an accepted list's job is then held in arrays, with its tree ranks and paths.
 #![tactic(auto)]
 
-ghost use Rattle.std.specs.Prelude.{◌≡◌, length};
+ghost use Rattle.std.specs.Prelude.{◌≡◌, length, OnOk};
+ghost use Rattle.limits.specs.Refusals.{refusal_in};
 ghost use Rattle.frame.specs.Questions.{list_refusal};
 ghost use Rattle.frame.specs.Arrays.{columns, arrays, job_at};
 ghost use Rattle.held.specs.Held.{Held};
 ghost use Rattle.accept.specs.Accepting.{Empty, SomeHeld};
-ghost use Rattle.job.specs.Reading.{refused_header};
 ghost use Rattle.accept_lists.specs.Lists.{ListHeld};
 ghost use Rattle.accept_lists.specs.Given.{count_refusal, Given, ListAccepted};
 
-use accept::job_refusal;
-use job::{Header, refused_header};
-use limits::{MOST_COUNT, MOST_LENGTH, MOST_NUMBER};
+use accept::check_job;
+use job::Header;
+use limits::{MOST_COUNT, MOST_LENGTH, MOST_NUMBER, Refusal};
 use records::ListCopy;
 
-// The first refusal of questions 1 to 6 for links in arrays; question 3 is met. Of an accepted list the tree ranks and
-// paths are found.
+// Questions 1 to 6 for links in arrays; question 3 is met. Of an accepted list the tree ranks and paths are found.
 pub fn accept_list(
     nodes: u32,
     edges: usize,
@@ -26,38 +25,34 @@ pub fn accept_list(
     mark: &[u32; 256],
     ts: &mut [u32; 256],
     mask: &mut [u64; 64],
-) -> u32
+) -> Result<(), Refusal>
     requires list_held { ListHeld edges (columns end1.now end2.now cost.now mark.now) }
     requires ts_len { length ts.old ≡ 256 }
-    ensures refusal { result ≡ list_refusal (job_at nodes edges (columns end1.now end2.now cost.now mark.now)) }
-    ensures held { result ≡ 0
-        → Held (job_at nodes edges (columns end1.now end2.now cost.now mark.now)) nodes edges
-        (arrays end1.now end2.now cost.now mark.now ts.new mask.new) }
+    ensures refusal { refusal_in result ≡ list_refusal (job_at nodes edges (columns end1.now end2.now cost.now mark.now)) }
+    ensures held { OnOk result (Held (job_at nodes edges (columns end1.now end2.now cost.now mark.now)) nodes edges
+        (arrays end1.now end2.now cost.now mark.now ts.new mask.new)) }
 {
-    let refusal = links::check_list(nodes, edges, end1, end2, cost, mark);
-    if refusal != 0 {
-        return refusal;
-    }
-    job_refusal(nodes, edges, end1, end2, cost, mark, ts, mask, true)
+    links::check_list(nodes, edges, end1, end2, cost, mark)?;
+    check_job(nodes, edges, end1, end2, cost, mark, ts, mask, true)
 }
 
-// The refusal that is known before a link is looked at: by the word on large numbers and by the counts.
-fn count_refusal(nodes: u32, count: usize, small: bool) -> u32
-    ensures { result ≡ count_refusal nodes count small }
+// What is known before a link is looked at: by the word on large numbers and by the counts.
+fn check_counts(nodes: u32, count: usize, small: bool) -> Result<(), Refusal>
+    ensures { refusal_in result ≡ count_refusal nodes count small }
 {
     if MOST_NUMBER < nodes {
-        return 1;
+        return Err(Refusal::Numbers);
     }
     if MOST_LENGTH < count {
-        return 1;
+        return Err(Refusal::Numbers);
     }
     if !small {
-        return 1;
+        return Err(Refusal::Numbers);
     }
     if MOST_COUNT < count {
-        return 2;
+        return Err(Refusal::Counts);
     }
-    0
+    Ok(())
 }
 
 // The first refusal of questions 1 to 6 for a list of records, or the counts, with the job in the arrays.
@@ -70,26 +65,19 @@ pub fn accept_links(
     mark: &mut [u32; 256],
     ts: &mut [u32; 256],
     mask: &mut [u64; 64],
-) -> Header
+) -> Result<Header, Refusal>
     requires { Empty (arrays end1.old end2.old cost.old mark.old ts.old mask.old) }
-    ensures list { Given nodes list (λ n. result ≡ refused_header n)
+    ensures list { Given nodes list (λ n. refusal_in result ≡ n)
         (λ j. ListAccepted j result (arrays end1.new end2.new cost.new mark.new ts.new mask.new)) }
     ensures job { SomeHeld result (arrays end1.new end2.new cost.new mark.new ts.new mask.new) }
 {
     let count = list.count;
-    let early = count_refusal(nodes, count, list.small);
-    if early != 0 {
-        return refused_header(early);
-    }
+    check_counts(nodes, count, list.small)?;
     let links = list.links;
     records::spread(count, links, end1, end2, cost, mark);
-    let refusal = accept_list(nodes, count, end1, end2, cost, mark, ts, mask);
-    if refusal != 0 {
-        return refused_header(refusal);
-    }
-    Header {
-        refusal: 0,
-        nodes: nodes,
+    accept_list(nodes, count, end1, end2, cost, mark, ts, mask)?;
+    Ok(Header {
+        nodes,
         edges: count as u32,
-    }
+    })
 }
