@@ -1,5 +1,4 @@
--- Laws of the next spare rank over a set: what it means, and the turns of the loops that look for it, one column or eight at a
--- time. Assumes nothing.
+-- Laws of the next spare rank over a set: what it means, and the searches for it, one column or eight at a time. Assumes nothing.
 use Rattle.std.specs.Prelude.{ℕ, suc, ◌+◌, ◌-◌, ◌*◌, ◌/◌, ◌^◌, ◌≤◌, ◌<◌, ◌≡◌, Bool, true, false, not, ◌&&◌, ◌||◌, List, eqb, ltb, get_or}
 use Rattle.std.specs.Prelude.{Option, Some, None, MatchOption, unwrap_or}
 use Rattle.std.proofs.Math.Decide.{dec_lt, ℕ_discrete}
@@ -79,7 +78,7 @@ module _ (from spares trees : ℕ) (cols : List ℕ) (l : from ≤ spares) where
 
 -- ---- one column at a time
 
--- The loop has passed the columns from `from` up to s.
+-- No column from `from` up to s has a member of the set.
 abbrev pub PassedOver : ℕ → ℕ → ℕ → List ℕ → Type 0
 PassedOver from s trees cols = (x : ℕ) → from ≤ x → x < s → meets trees cols x ≡ false
 
