@@ -1,8 +1,8 @@
--- Laws of the next spare rank over a set: what it means, and the turns of the loops that look for it, one column or eight at a
--- time. Assumes nothing.
-use Rattle.std.specs.Prelude.{ℕ, suc, ◌+◌, ◌-◌, ◌^◌, ◌≤◌, ◌<◌, ◌≡◌, Bool, true, false, ◌&&◌, ◌||◌, List, ltb, get_or}
+-- Laws of the next spare rank over a set: what it means, and the searches for it, one column or eight at a time. Assumes nothing.
+use Rattle.std.specs.Prelude.{ℕ, suc, ◌+◌, ◌-◌, ◌*◌, ◌/◌, ◌^◌, ◌≤◌, ◌<◌, ◌≡◌, Bool, true, false, not, ◌&&◌, ◌||◌, List, eqb, ltb, get_or}
+use Rattle.std.specs.Prelude.{Option, Some, None, MatchOption, unwrap_or}
 use Rattle.std.proofs.Math.Decide.{dec_lt, ℕ_discrete}
-use Rattle.std.proofs.Common.{add-one, arith, sym, ap, ◌∙◌, inl, inr, ltb-true, lt-ltb, le-ltb}
+use Rattle.std.proofs.Common.{add-one, arith, sym, ap, ◌∙◌, inl, inr, ltb-true, lt-ltb, le-ltb, ne_eqb}
 use Rattle.loops.specs.Loop.{first}
 use Rattle.loops.specs.FirstLaws.{First, first_is, first_found, some_of, some_at}
 use Rattle.loops.specs.TestLaws.{truth, clash, and_first, and_second}
@@ -44,6 +44,17 @@ module _ (from spares trees : ℕ) (cols : List ℕ) (l : from ≤ spares) where
       }) in
       ap (λ x. from + x) is ∙ e
 
+  -- A search from `from` on finds it, or nothing before `spares`.
+  pub over_search :
+      (r : Option ℕ)
+      → MatchOption r ((s : ℕ) → from ≤ s → s < spares → meets trees cols s ≡ false)
+      (λ s. (from ≤ s) × (s < spares) × (meets trees cols s ≡ true) × ((x : ℕ) → from ≤ x → x < s → meets trees cols x ≡ false))
+      → unwrap_or r spares ≡ next_over from spares trees cols
+  over_search None none =
+      sym (over_found (record { start = l; within = omega arith; before = none; hit = λ b. absurd (omega arith) }))
+  over_search (Some s) (a, b, h, none) =
+      sym (over_found (record { start = a; within = omega arith; before = none; hit = λ _. h }))
+
   -- If none before has one, it is the first of all.
   pub over_first : ((s : ℕ) → s < from → meets trees cols s ≡ false) → next_over from spares trees cols ≡ first spares (meets trees cols)
   over_first none = sym (first_found (record {
@@ -67,7 +78,7 @@ module _ (from spares trees : ℕ) (cols : List ℕ) (l : from ≤ spares) where
 
 -- ---- one column at a time
 
--- The loop has passed the columns from `from` up to s.
+-- No column from `from` up to s has a member of the set.
 abbrev pub PassedOver : ℕ → ℕ → ℕ → List ℕ → Type 0
 PassedOver from s trees cols = (x : ℕ) → from ≤ x → x < s → meets trees cols x ≡ false
 
@@ -76,6 +87,22 @@ word_some : (r : ℕ) (p : ℕ → Bool) → r < 2 ^ 64 → ((j : ℕ) → bit r
 word_some r p fits is some =
     let l : first 64 (bit r) < 64 = first_below 64 r some fits in
     some_of 64 p (first 64 (bit r)) l (sym (is (first 64 (bit r))) ∙ (first_is 64 (bit r)).hit l)
+
+-- The members of column s in the set, as a word.
+module _ (trees : ℕ) (cols : List ℕ) (s r : ℕ) (both : (j : ℕ) → bit r j ≡ (bit (get_or cols s 0) j && bit trees j)) where
+  meets_none : r ≡ 0 → meets trees cols s ≡ false
+  meets_none none = elim (truth (meets trees cols s)) [
+    | inl h ↦
+        let (t, _, c) = some_at 64 (λ t. bit (get_or cols s 0) t && bit trees t) h in
+        clash (both t ∙ c) (rw none (bit_zero t))
+    | inr h ↦ h
+  ]
+
+  pub meets_is : r < 2 ^ 64 → not (eqb r 0) ≡ meets trees cols s
+  meets_is fits = elim (ℕ_discrete r 0) [
+    | yes e ↦ rw (e, meets_none e)
+    | no d ↦ rw (ne_eqb r 0 d) (sym (word_some r (λ t. bit (get_or cols s 0) t && bit trees t) fits both (omega arith)))
+  ]
 
 module _ (from spares trees : ℕ) (cols : List ℕ) (s : ℕ) (l : from ≤ s) (m : s ≤ spares) (passed : PassedOver from s trees cols) where
   -- The rest of the way is as long from s as from `from`.
@@ -105,12 +132,7 @@ module _ (from spares trees : ℕ) (cols : List ℕ) (s : ℕ) (l : from ≤ s) 
 
     pub over_pass : r ≡ 0 → PassedOver from (s + 1) trees cols
     over_pass none x a b = elim (ℕ_discrete x s) [
-      | yes e ↦ rw e (elim (truth (meets trees cols s)) [
-        | inl h ↦
-            let (t, _, c) = some_at 64 (λ t. bit (get_or cols s 0) t && bit trees t) h in
-            clash (both t ∙ c) (rw none (bit_zero t))
-        | inr h ↦ h
-      ])
+      | yes e ↦ rw e (meets_none trees cols s r both none)
       | no d ↦ passed x a (omega arith)
     ]
 
@@ -132,6 +154,22 @@ module _ (from spares trees : ℕ) (cols : List ℕ) (s : ℕ) (l : from ≤ s) 
       | inr h ↦ h
     ]
   ]
+
+-- Blocks of eight, one behind the other.
+module _ (from spares trees : ℕ) (cols : List ℕ) (n : ℕ) (h : from + 8 * n ≤ spares) where
+  blocks_pass :
+      (k : ℕ) → ((b : ℕ) → 0 ≤ b → b < k → PassedOver (from + 8 * b) (from + 8 * b + 8) trees cols)
+      → PassedOver from (from + 8 * k) trees cols
+  blocks_pass k each x a b = each ((x - from) / 8) (omega arith) (omega arith) x (omega arith) (omega arith)
+
+  -- A search among them for the first that has a member of the set: those before it have none.
+  pub blocks_search :
+      (Found : ℕ → Type 0) (r : Option ℕ)
+      → MatchOption r ((b : ℕ) → 0 ≤ b → b < n → PassedOver (from + 8 * b) (from + 8 * b + 8) trees cols)
+      (λ i. (0 ≤ i) × (i < n) × Found i × ((b : ℕ) → 0 ≤ b → b < i → PassedOver (from + 8 * b) (from + 8 * b + 8) trees cols))
+      → (from + 8 * unwrap_or r n ≤ spares) × PassedOver from (from + 8 * unwrap_or r n) trees cols
+  blocks_search Found None each = (omega arith, blocks_pass n each)
+  blocks_search Found (Some i) (_, l, _, each) = (omega arith, blocks_pass i each)
 
 -- One column more united.
 some_next : (i : ℕ) (p : ℕ → Bool) → (ltb (first i p) i || p i) ≡ ltb (first (i + 1) p) (i + 1)

@@ -1,24 +1,28 @@
 // The next spare rank over a set of tree ranks (specs/Over.antt).
 #![tactic(auto)]
 
-ghost use Rattle.std.specs.Prelude.{◌≡◌, ℕ, ◌+◌, ◌≤◌, ltb, get_or};
+ghost use Rattle.std.specs.Prelude.{◌≡◌, ℕ, ◌+◌, ◌*◌, ◌<◌, ◌≤◌, false, ltb, get_or};
 ghost use Rattle.loops.specs.Loop.{first};
 ghost use Rattle.bits.specs.Bit.{bit};
-ghost use Rattle.goals.specs.Over.{next_over};
+ghost use Rattle.goals.specs.Over.{meets, next_over};
+ghost use Rattle.goals.specs.OverLaws.{PassedOver};
+
+// Whether a spare rank covers one of these tree ranks and is in no pair.
+fn meets(s: u32, trees: u64, cols: &[u64; 256]) -> bool
+    requires { s < 256 }
+    ensures { result ≡ meets trees cols.now s }
+{
+    bits::both(cols[s as usize], trees) != 0
+}
 
 // The lowest spare rank from `from` on that covers one of these tree ranks and is in no pair; `spares` if there is none.
 pub fn first_over(from: u32, spares: u32, trees: u64, cols: &[u64; 256]) -> u32
     requires { (from ≤ spares) × (spares ≤ 256) }
     ensures { result ≡ next_over from spares trees cols.now }
 {
-    let mut s = from;
-    while s < spares {
-        if bits::both(cols[s as usize], trees) != 0 {
-            return s;
-        }
-        s += 1;
-    }
-    s
+    (from..spares)
+        .find(|s| meets(*s, trees, cols))
+        .unwrap_or(spares)
 }
 
 // The tree ranks that one of eight spare ranks covers.
@@ -28,12 +32,29 @@ fn united(from: u32, cols: &[u64; 256]) -> u64
 {
     let first = from as usize;
     let mut w = 0u64;
-    let mut i: usize = 0;
-    while i < 8 {
-        w = bits::either(w, cols[first + i]);
-        i += 1;
+    for column in &cols[first..first + 8] {
+        w = bits::either(w, *column);
     }
     w
+}
+
+// Whether one of eight spare ranks covers one of these tree ranks and is in no pair.
+fn block_meets(from: u32, trees: u64, cols: &[u64; 256]) -> bool
+    requires { from + 8 ≤ 256 }
+    ensures { result ≡ false → PassedOver from (from + 8) trees cols.now }
+{
+    bits::both(united(from, cols), trees) != 0
+}
+
+// How many blocks of eight spare ranks from `from` on cover none of these tree ranks, up to the first that covers one.
+fn blocks_passed(from: u32, spares: u32, trees: u64, cols: &[u64; 256]) -> u32
+    requires { (from ≤ spares) × (spares ≤ 256) }
+    ensures { (from + 8 * result ≤ spares) × PassedOver from (from + 8 * result) trees cols.now }
+{
+    let blocks = (spares - from) / 8;
+    (0..blocks)
+        .find(|b| block_meets(from + 8 * *b, trees, cols))
+        .unwrap_or(blocks)
 }
 
 // The same as `first_over`, eight spare ranks at a time.
@@ -41,12 +62,6 @@ pub fn goal_over(from: u32, spares: u32, trees: u64, cols: &[u64; 256]) -> u32
     requires { (from ≤ spares) × (spares ≤ 256) }
     ensures { result ≡ next_over from spares trees cols.now }
 {
-    let mut s = from;
-    while s + 8 <= spares {
-        if bits::both(united(s, cols), trees) != 0 {
-            return first_over(s, spares, trees, cols);
-        }
-        s += 8;
-    }
-    first_over(s, spares, trees, cols)
+    let passed = blocks_passed(from, spares, trees, cols);
+    first_over(from + 8 * passed, spares, trees, cols)
 }

@@ -30,16 +30,11 @@ fn turn(root: TreeRank, hit: TreeRank, slot: Slot, links: &mut [u32; 128])
 {
     let mut v = hit.0;
     let mut k = slot.0;
-    let mut left = slot.0;
-    loop {
+    for _ in 0..=slot.0 {
         links[k as usize] = v;
         if v == root.0 {
             return;
         }
-        if left == 0 {
-            return;
-        }
-        left -= 1;
         let way = links[(64 + v) as usize];
         v = way % 64;
         k = way / 64 % 64;

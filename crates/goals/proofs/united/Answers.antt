@@ -1,19 +1,16 @@
--- `goals::united` meets its contract. The loop's invariant: the word holds what one of the columns passed holds. Assumes nothing.
-use native.Mathlib.Omega.{arith}
-use mathlib.Core.Path.{◌≡◌}
+-- `goals::united` meets its contract. Assumes nothing.
+use Rattle.std.proofs.Common.{◌+◌, arith}
+use Rattle.std.proofs.lemmas.List.Edits.{get_or-between}
 use Rattle.goals.specs.OverLaws.{united_none, united_turn}
 use Rattle.goals.proofs.united.Goals as goal
 
-pub loop-i-init : goal.loop-i-init
-loop-i-init c =
-    (omega arith, united_none c.args.from c.args.cols.now)
+pub loop-column-init : goal.loop-column-init
+loop-column-init c =
+    united_none c.args.from c.args.cols.now
 
-pub loop-i-preserved : goal.loop-i-preserved
-loop-i-preserved c =
+pub loop-column-preserved : goal.loop-column-preserved
+loop-column-preserved c =
     let a = c.args in
-    (omega arith, united_turn a.from a.cols.now c.loop-i.i c.loop-i.w c.either-w.result c.loop-i.invariant.1 c.either-w.ensures)
-
-pub returns : goal.returns
-returns c =
-    let all : c.loop-i.i ≡ 8 = omega (arith, c.loop-i.invariant.0) in
-    rw all at c.loop-i.invariant.1
+    let l = c.loop-column in
+    let column = get_or-between a.cols.now a.from (a.from + 8) l.column-index 0 (omega arith) in
+    united_turn a.from a.cols.now l.column-index l.w c.either-w.result l.invariant (rw column at c.either-w.ensures)

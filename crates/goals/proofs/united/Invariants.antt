@@ -1,5 +1,5 @@
 -- `goals::united` meets its contract. The loop's invariant: the word holds what one of the columns passed holds. Assumes nothing.
-use Prim.Native.Nat.{ℕ, ◌+◌, ◌-◌, ◌≤◌}
+use Prim.Native.Nat.{ℕ, ◌+◌}
 use mathlib.Core.Path.{◌≡◌}
 use lib.Dec.{ltb}
 use lib.ListN.{get_or}
@@ -7,8 +7,6 @@ use Rattle.loops.specs.Loop as Loop
 use Rattle.bits.specs.Bit.{bit}
 use Rattle.goals.proofs.united.Given as goal
 
-abbrev pub invariant-loop-i : goal.invariant-loop-i
-invariant-loop-i l = (l.i ≤ 8) × ((t : ℕ) → bit l.w t ≡ ltb (Loop.first l.i (λ j. bit (get_or l.cols (l.from + j) 0) t)) l.i)
-
-abbrev pub decreases-loop-i : goal.decreases-loop-i
-decreases-loop-i l = 8 - l.i
+abbrev pub invariant-loop-column : goal.invariant-loop-column
+invariant-loop-column l =
+    (t : ℕ) → bit l.w t ≡ ltb (Loop.first l.column-index (λ j. bit (get_or l.cols (l.from + j) 0) t)) l.column-index

@@ -2,27 +2,11 @@
 -- first with it in those of the whole set. The measure is what is left. Assumes nothing.
 use native.Mathlib.Omega.{arith}
 use Rattle.bits.specs.BitLaws.{first_below, fewer}
-use Rattle.slots.specs.PairLaws.{fill_start, fill_turn, fill_end}
+use Rattle.slots.specs.PairLaws.{fill_turn, fill_end}
 use Rattle.slots.proofs.fill.Goals as goal
-
-pub loop-left-init : goal.loop-left-init
-loop-left-init c =
-    (c.ranges.trees.fits, fill_start c.args.k.0 c.args.trees c.args.words.now c.requires.1)
-
-pub overflow_cast-t : goal.overflow_cast-t
-overflow_cast-t c =
-    omega (arith, c.lowest-t.ensures, first_below 64 c.loop-left.left (omega arith) c.loop-left.invariant.0)
-
-pub offset_bounds-words-t : goal.offset_bounds-words-t
-offset_bounds-words-t c =
-    omega (arith, c.lowest-t.ensures, first_below 64 c.loop-left.left (omega arith) c.loop-left.invariant.0)
 
 pub bounds-words-t : goal.bounds-words-t
 bounds-words-t c =
-    omega (arith, c.lowest-t.ensures, first_below 64 c.loop-left.left (omega arith) c.loop-left.invariant.0)
-
-pub offset_bounds-words-t-in-loop-left : goal.offset_bounds-words-t-in-loop-left
-offset_bounds-words-t-in-loop-left c =
     omega (arith, c.lowest-t.ensures, first_below 64 c.loop-left.left (omega arith) c.loop-left.invariant.0)
 
 pub bounds-words-t-in-loop-left : goal.bounds-words-t-in-loop-left
