@@ -39,11 +39,8 @@ pub fn adjacency(
     requires adjacency { Adjacency 0 ranks.now end1.now end2.now adj.old }
     ensures { Adjacency count ranks.now end1.now end2.now adj.new }
 {
-    let mut k: usize = 0;
-    while k < count {
-        let e = ranks[k];
+    for (k, e) in ranks[..count].iter().enumerate() {
         let rank = k as u32;
-        put_edge(TreeRank(rank), Edge(e), end1, end2, adj);
-        k += 1;
+        put_edge(TreeRank(rank), Edge(*e), end1, end2, adj);
     }
 }

@@ -29,15 +29,13 @@ fn falling_ranks(ranks: &[u32; 256], count: usize, cost: &[u32; 256]) -> u64
 {
     let mut falling = 0u64;
     let mut least = 4294967295u32;
-    let mut k: usize = 0;
-    while k < count {
+    for k in 0..count {
         let rank = k as u32;
         let price = cost_at(TreeRank(rank), ranks, cost);
         if price <= least {
             least = price;
             falling = bits::with(falling, rank);
         }
-        k += 1;
     }
     falling
 }
@@ -102,15 +100,13 @@ pub fn judge_ranked(
         → result ≡ judged (array_graph nodes edges end1.now end2.now mark.now)
         (array_tree mark.now) (array_cost cost.now) (take count ranks.now) }
 {
-    let mut e: usize = 0;
-    while e < edges {
-        if is_spare(mark[e]) {
+    for (e, m) in mark[..edges].iter().enumerate() {
+        if is_spare(*m) {
             let s = e as u32;
             if !spare_holds(Edge(s), falling, ranks, end1, end2, cost, mask) {
                 return false;
             }
         }
-        e += 1;
     }
     true
 }

@@ -82,8 +82,7 @@ fn collect_low(
         mark.new result edges }
 {
     let mut n: usize = 0;
-    let mut e: usize = 0;
-    while e < edges {
+    for e in 0..edges {
         if is_spare(mark[e]) {
             let number = e as u32;
             if undercuts(Edge(number), top, cost, ts, end1, end2, mask) {
@@ -91,7 +90,6 @@ fn collect_low(
                 n += 1;
             }
         }
-        e += 1;
     }
     n
 }
@@ -124,16 +122,14 @@ fn dearer(limit: u32, x: u32, cost: &[u32; 256], ts: &[u32; 256]) -> u32
     ensures few { result ≤ limit }
     ensures ranks { (t : ℕ) → t < limit → ltb x (cost_at cost.now ts.now t) ≡ ltb t result }
 {
-    let mut p = limit;
-    while p > 0 {
-        let number = ts[(p - 1) as usize];
+    for t in (0..limit).rev() {
+        let number = ts[t as usize];
         let e = Edge(number);
         if x < cost[e.0 as usize] {
-            return p;
+            return t + 1;
         }
-        p -= 1;
     }
-    p
+    0
 }
 
 // Writes the column of each spare rank: the tree ranks that its edge covers and that cost more. Spare ranks go by rising cost:
@@ -158,12 +154,10 @@ pub fn columns(
     ensures length { length cols.new ≡ 256 }
 {
     let mut limit = trees;
-    let mut s: usize = 0;
-    while s < spares {
+    for s in 0..spares {
         let e = Edge(ss[s]);
         limit = dearer(limit, cost[e.0 as usize], cost, ts);
         let over = covered(e, end1, end2, mask);
         cols[s] = bits::both(over, bits::below(limit));
-        s += 1;
     }
 }

@@ -100,8 +100,7 @@ pub fn root_paths(
         reached: 1,
     };
     let mut done = 0u64;
-    let mut rounds = nodes;
-    while 0 < rounds {
+    for _ in 0..nodes {
         let waiting = bits::less(front.reached, done);
         if waiting == 0 {
             return front.found;
@@ -112,7 +111,6 @@ pub fn root_paths(
         let word = bits::less(adj[at], mask[at]);
         front = expand(front, word, ranks, end1, end2, mask);
         done = bits::with(done, v.0);
-        rounds -= 1;
     }
     front.found
 }

@@ -27,8 +27,7 @@ pub fn place(
         (slot_pairs slots links.now spare.now) }
     ensures lengths { (length costs.new ≡ 256) × (length mate.new ≡ 256) }
 {
-    let mut k: usize = 0;
-    while k < slots {
+    for k in 0..slots {
         let t = links[k];
         let s = spare[k];
         let a = Edge(ts[t as usize]);
@@ -36,6 +35,5 @@ pub fn place(
         costs[a.0 as usize] = label[k];
         costs[b.0 as usize] = label[k];
         mate[a.0 as usize] = b.0 + 1;
-        k += 1;
     }
 }

@@ -63,13 +63,11 @@ fn spares_at(
     ensures { result ≡ spares_at edges end1.now end2.now cost.now mark.now mask.now k.0 x }
 {
     let mut found: u32 = 0;
-    let mut at: usize = 0;
-    while at < edges {
+    for at in 0..edges {
         let s = at as u32;
         if meets(Edge(s), k, x, end1, end2, cost, mark, mask) {
             found += 1;
         }
-        at += 1;
     }
     found
 }
@@ -127,13 +125,11 @@ pub fn count_all(
         mask.now }
 {
     let mut total: u32 = 0;
-    let mut e: usize = 0;
-    while e < edges {
+    for e in 0..edges {
         if is_spare(mark[e]) {
             let s = e as u32;
             total += ranks_within(Edge(s), cost[e], 4294967295, ranks, end1, end2, cost, mask);
         }
-        e += 1;
     }
     total
 }

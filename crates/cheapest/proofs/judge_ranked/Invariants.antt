@@ -1,5 +1,4 @@
 -- `cheapest::judge_ranked` meets its contract. The loop's invariant: the links passed hold. Assumes nothing.
-use Prim.Native.Nat.{◌-◌, ◌≤◌}
 use mathlib.Core.Path.{◌≡◌}
 use mathlib.Core.Bool.{true}
 use Rattle.loops.specs.Below.{all_below}
@@ -7,8 +6,4 @@ use Rattle.cheapest.specs.Judge.{link_holds}
 use Rattle.cheapest.proofs.judge_ranked.Given as goal
 
 abbrev pub invariant-loop-e : goal.invariant-loop-e
-invariant-loop-e l =
-    (l.e ≤ l.edges) × (all_below l.e (link_holds l.ranks l.end1 l.end2 l.cost l.mark l.mask) ≡ true)
-
-abbrev pub decreases-loop-e : goal.decreases-loop-e
-decreases-loop-e l = l.edges - l.e
+invariant-loop-e l = all_below l.e (link_holds l.ranks l.end1 l.end2 l.cost l.mark l.mask) ≡ true

@@ -11,14 +11,6 @@ pub returns-then-word-eq0 : goal.returns-then-word-eq0
 returns-then-word-eq0 c =
     lead_none c.args.word c.args.falling c.if-word-eq0.true
 
-pub less-requires : goal.less-requires
-less-requires c =
-    tt
-
-pub lowest-requires : goal.lowest-requires
-lowest-requires c =
-    tt
-
 pub with-requires : goal.with-requires
 with-requires c =
     omega (arith, first_below 64 c.args.word (omega arith) (omega arith))

@@ -21,10 +21,6 @@ afforded s = affords s.args.ranks.now s.args.cost.now s.args.spare.0
 abbrev limit : Start → ℕ
 limit s = get_or s.args.cost.now s.args.spare.0 0
 
-pub leaders-left-requires : goal.leaders-left-requires
-leaders-left-requires c =
-    tt
-
 pub loop-left-init : goal.loop-left-init
 loop-left-init c =
     let x = c.crossing-word in (
@@ -34,10 +30,6 @@ loop-left-init c =
       omega arith,
       λ k h. c.requires.edge k (sym (x.ensures k) ∙ and_first (bit x.result k) _ (sym (c.leaders-left.ensures k) ∙ h)),
     )
-
-pub lowest-k-requires : goal.lowest-k-requires
-lowest-k-requires c =
-    tt
 
 pub cost_at-requires : goal.cost_at-requires
 cost_at-requires c =

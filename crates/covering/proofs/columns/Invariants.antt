@@ -1,6 +1,6 @@
 -- `covering::columns` meets its contract. The loop's invariant: the columns of the spare ranks passed are written; no tree rank
--- from the limit up costs more than a spare rank that is left. The measure is how many are left. Assumes nothing.
-use Prim.Native.Nat.{ℕ, ◌-◌, ◌≤◌, ◌<◌}
+-- from the limit up costs more than a spare rank that is left. Assumes nothing.
+use Prim.Native.Nat.{ℕ, ◌≤◌, ◌<◌}
 use mathlib.Core.Path.{◌≡◌}
 use lib.ListN.{length}
 use Rattle.graph.specs.Rank.{cost_at}
@@ -9,9 +9,6 @@ use Rattle.covering.proofs.columns.Given as goal
 
 abbrev pub invariant-loop-s : goal.invariant-loop-s
 invariant-loop-s l =
-    (l.s ≤ l.spares) × (l.limit ≤ l.trees) × (length l.cols ≡ 256)
+    (l.limit ≤ l.trees) × (length l.cols ≡ 256)
     × ((t' s' : ℕ) → l.limit ≤ t' → t' < l.trees → l.s ≤ s' → s' < l.spares → cost_at l.cost l.ts t' ≤ cost_at l.cost l.ss s')
     × ColumnsHold l.trees l.s l.cost l.ts l.ss l.end1 l.end2 l.mask l.cols
-
-abbrev pub decreases-loop-s : goal.decreases-loop-s
-decreases-loop-s l = l.spares - l.s

@@ -10,17 +10,6 @@ use Rattle.covering.proofs.LowLaws.{low_bound}
 use Rattle.covering.proofs.low_ranks.Goals as goal
 use Rattle.covering.proofs.low_ranks.Goals.{After-collect_low-n}
 
-pub dearest-top-requires : goal.dearest-top-requires
-dearest-top-requires c =
-    λ l. c.requires.arrays.edge 0 l
-
-pub collect_low-n-requires : goal.collect_low-n-requires
-collect_low-n-requires c =
-    record {
-      arrays = (c.args.trees, c.dearest-top.ensures, c.requires.arrays);
-      costs = c.requires.costs;
-    }
-
 -- the spares that undercut, as far as the arrays say
 abbrev low : After-collect_low-n → EdgeSet
 low c =

@@ -22,18 +22,9 @@ edge_below c =
     c.lowest.result
     c.lowest.ensures
 
-pub bounds-cost-e : goal.bounds-cost-e
-bounds-cost-e c =
-    let p = c.requires in omega (arith, p.2, p.4.few_edges)
-
 pub returns-then-top-x : goal.returns-then-top-x
 returns-then-top-x c =
     none_dearer c.requires.4 c.args.e.0 c.args.top c.requires.3 c.if-top-x.true
-
-pub covered-over-requires : goal.covered-over-requires
-covered-over-requires c =
-    let p = c.requires in
-    (omega (arith, p.2, p.4.few_edges), p.4.first c.args.e.0 p.2, p.4.second c.args.e.0 p.2)
 
 pub returns-then-over-eq0 : goal.returns-then-over-eq0
 returns-then-over-eq0 c =

@@ -6,7 +6,7 @@ use lib.ListN.{get_or}
 use Rattle.bits.specs.Bit.{bit}
 use Rattle.paths.specs.Arrays.{held}
 use Rattle.paths.specs.WordLaws.{lowest_below, word_less}
-use Rattle.paths.specs.ExpandLaws.{trying_start, trying_rank, trying_turn, trying_end}
+use Rattle.paths.specs.ExpandLaws.{trying_rank, trying_turn, trying_end}
 use Rattle.paths.proofs.expand.Goals as goal
 use Rattle.paths.proofs.expand.Goals.{After-lowest-k}
 
@@ -24,37 +24,13 @@ rank_named c =
 edge_below : (c : After-lowest-k) → get_or c.args.ranks.now c.lowest-k.result 0 < 256
 edge_below c = c.requires.named.edge c.lowest-k.result (rank_named c)
 
-pub loop-untried-init : goal.loop-untried-init
-loop-untried-init c =
-    (c.requires.found_bound.1, trying_start _ _ _ _ _ (omega arith))
-
-pub overflow_cast-number : goal.overflow_cast-number
-overflow_cast-number c =
-    omega (arith, rank_below (goal.at.overflow_cast-number c).After-lowest-k)
-
-pub offset_bounds-ranks-k : goal.offset_bounds-ranks-k
-offset_bounds-ranks-k c =
-    omega (arith, rank_below (goal.at.offset_bounds-ranks-k c).After-lowest-k)
-
 pub bounds-ranks-k : goal.bounds-ranks-k
 bounds-ranks-k c =
     omega (arith, rank_below (goal.at.bounds-ranks-k c).After-lowest-k)
 
-pub overflow_cast-at : goal.overflow_cast-at
-overflow_cast-at c =
-    omega (arith, edge_below (goal.at.overflow_cast-at c).After-lowest-k)
-
-pub offset_bounds-end1-at : goal.offset_bounds-end1-at
-offset_bounds-end1-at c =
-    omega (arith, edge_below (goal.at.offset_bounds-end1-at c).After-lowest-k)
-
 pub bounds-end1-at : goal.bounds-end1-at
 bounds-end1-at c =
     edge_below (goal.at.bounds-end1-at c).After-lowest-k
-
-pub offset_bounds-end2-at : goal.offset_bounds-end2-at
-offset_bounds-end2-at c =
-    omega (arith, edge_below (goal.at.offset_bounds-end2-at c).After-lowest-k)
 
 pub bounds-end2-at : goal.bounds-end2-at
 bounds-end2-at c =
@@ -94,11 +70,8 @@ loop-untried-preserved c =
           c.without_lowest-untried.ensures c.grow-next.ensures.state,
     )
 
-pub returns : goal.returns
-returns c =
+pub returns-clause-state : goal.returns-clause-state
+returns-clause-state c =
     let l = c.loop-untried in
     let a = c.args in
-    record {
-      state = trying_end a.word a.ranks.now a.end1.now a.end2.now _ l.untried _ l.invariant.1 c.loop-untried-test.false;
-      places = l.invariant.0;
-    }
+    trying_end a.word a.ranks.now a.end1.now a.end2.now _ l.untried _ l.invariant.1 c.loop-untried-test.false

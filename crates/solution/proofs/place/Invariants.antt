@@ -1,6 +1,5 @@
 -- `solution::place` meets its contract. The loop's invariant: the model, run on the slots that are left, gives what it gives on
--- all of them. The measure is how many are left. Assumes nothing.
-use Prim.Native.Nat.{◌-◌}
+-- all of them. Assumes nothing.
 use mathlib.Core.Path.{◌≡◌}
 use lib.ListN.{length, get_or}
 use Rattle.optimum.specs.Solve.{new_costs, partners}
@@ -15,6 +14,3 @@ invariant-loop-k l =
     ≡ new_costs (λ e. get_or l.initial.costs e 0) l.ts l.ss (slot_pairs l.slots l.links l.spare) (λ k. get_or l.label k 0))
     × (partners_from l.slots l.ts l.ss l.links l.spare l.label l.k (λ e. get_or l.mate e 0)
     ≡ partners l.ts l.ss (slot_pairs l.slots l.links l.spare))
-
-abbrev pub decreases-loop-k : goal.decreases-loop-k
-decreases-loop-k l = l.slots - l.k

@@ -21,19 +21,7 @@ after_few s =
     let a = s.args in
     violations_few a.ranks.now a.end1.now a.end2.now (set a.cost.now a.edge.0 a.new) a.mark.now a.mask.now a.edges
 
-pub offset_bounds-mark-edge : goal.offset_bounds-mark-edge
-offset_bounds-mark-edge c =
-    omega (arith, c.requires.by_index.1.judged.links, c.requires.step_of.inside)
-
-pub bounds-mark-edge : goal.bounds-mark-edge
-bounds-mark-edge c =
-    omega (arith, c.requires.by_index.1.judged.links, c.requires.step_of.inside)
-
 -- ---- a tree link
-
-pub between_ends-requires : goal.between_ends-requires
-between_ends-requires c =
-    countable_joins _ _ _ _ _ _ _ c.requires.by_index.1 _ c.requires.step_of.inside
 
 -- its rank is the only one between its ends
 rank_below : (k : After-lowest-k) → k.lowest-k.result < 64
@@ -95,12 +83,9 @@ returns-then-is_tree c =
 
 -- ---- a spare
 
-pub ranks_within-requires : goal.ranks_within-requires
-ranks_within-requires c =
-    record {
-      joins = countable_joins _ _ _ _ _ _ _ c.requires.by_index.1 _ c.requires.step_of.inside;
-      by_index = across_edge _ _ _ _ _ _ _ c.requires.by_index.1 _ _;
-    }
+pub ranks_within-requires-clause-by_index : goal.ranks_within-requires-clause-by_index
+ranks_within-requires-clause-by_index c =
+    across_edge _ _ _ _ _ _ _ c.requires.by_index.1 _ _
 
 spare_fallen :
     (c : After-ranks_within) →
@@ -126,12 +111,9 @@ pub returns-then-new-old : goal.returns-then-new-old
 returns-then-new-old c =
     spare_fallen (goal.at.returns-then-new-old c).After-ranks_within
 
-pub ranks_within-requires-then-is_spare : goal.ranks_within-requires-then-is_spare
-ranks_within-requires-then-is_spare c =
-    record {
-      joins = countable_joins _ _ _ _ _ _ _ c.requires.by_index.1 _ c.requires.step_of.inside;
-      by_index = across_edge _ _ _ _ _ _ _ c.requires.by_index.1 _ _;
-    }
+pub ranks_within-requires-then-is_spare-clause-by_index : goal.ranks_within-requires-then-is_spare-clause-by_index
+ranks_within-requires-then-is_spare-clause-by_index c =
+    across_edge _ _ _ _ _ _ _ c.requires.by_index.1 _ _
 
 spare_risen :
     (c : After-ranks_within-then-is_spare) →

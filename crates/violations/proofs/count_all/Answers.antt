@@ -5,42 +5,18 @@ use lib.ListN.{get_or}
 use Rattle.loops.specs.Below.{sum}
 use Rattle.violations.specs.Counting.{violations_at}
 use Rattle.violations.specs.CountingLaws.{above_within, violations_few, count_other, count_spare}
-use Rattle.violations.specs.StepLaws.{countable_joins, across_edge}
+use Rattle.violations.specs.StepLaws.{across_edge}
 use Rattle.violations.proofs.count_all.Goals as goal
 use Rattle.violations.proofs.count_all.Goals.{After-ranks_within-total, else-is_spare, then-is_spare}
 
 pub loop-e-init : goal.loop-e-init
 unfolding sum
 loop-e-init c =
-    (omega arith, refl)
+    refl
 
-pub offset_bounds-mark-e : goal.offset_bounds-mark-e
-offset_bounds-mark-e c =
-    omega (arith, c.requires.1.judged.links)
-
-pub bounds-mark-e : goal.bounds-mark-e
-bounds-mark-e c =
-    omega (arith, c.requires.1.judged.links)
-
-pub overflow_cast-s : goal.overflow_cast-s
-overflow_cast-s c =
-    omega (arith, c.requires.1.judged.links)
-
-pub offset_bounds-cost-e : goal.offset_bounds-cost-e
-offset_bounds-cost-e c =
-    omega (arith, c.requires.1.judged.links)
-
-pub bounds-cost-e : goal.bounds-cost-e
-bounds-cost-e c =
-    omega (arith, c.requires.1.judged.links)
-
-pub ranks_within-total-requires : goal.ranks_within-total-requires
-ranks_within-total-requires c =
-    let h = c.requires.1 in
-    record {
-      joins = countable_joins _ _ _ _ _ _ _ h c.loop-e.e c.loop-e-test.true;
-      by_index = across_edge _ _ _ _ _ _ _ h _ _;
-    }
+pub ranks_within-total-requires-clause-by_index : goal.ranks_within-total-requires-clause-by_index
+ranks_within-total-requires-clause-by_index c =
+    across_edge _ _ _ _ _ _ _ c.requires.1 _ _
 
 -- one more spare
 spare_turn :
@@ -51,7 +27,7 @@ spare_turn :
 spare_turn c =
     let a = c.args in
     count_spare a.ranks.now a.end1.now a.end2.now a.cost.now a.mark.now a.mask.now c.loop-e.e c.loop-e.total
-    c.loop-e.invariant.1 c.is_spare.ensures c.if-is_spare.true c.ranks_within-total.result
+    c.loop-e.invariant c.is_spare.ensures c.if-is_spare.true c.ranks_within-total.result
     (c.ranks_within-total.ensures _ (above_within (get_or a.cost.now c.loop-e.e 0)))
 
 pub overflow_add-total : goal.overflow_add-total
@@ -64,26 +40,15 @@ overflow_add-total c =
       violations_few a.ranks.now a.end1.now a.end2.now a.cost.now a.mark.now a.mask.now (c.loop-e.e + 1),
     )
 
-pub overflow_add-e : goal.overflow_add-e
-overflow_add-e c =
-    omega (arith, c.requires.1.judged.links)
-
 pub loop-e-preserved : goal.loop-e-preserved
 loop-e-preserved c =
-    let a = c.args in (
-      omega arith,
-      elim c.if-is_spare.branch [
-        | then-is_spare w ↦ w.total-is
-            ∙ count_spare a.ranks.now a.end1.now a.end2.now a.cost.now a.mark.now a.mask.now c.loop-e.e c.loop-e.total
-            c.loop-e.invariant.1 c.is_spare.ensures w.if-is_spare.true w.ranks_within-total.result
-            (w.ranks_within-total.ensures _ (above_within (get_or a.cost.now c.loop-e.e 0)))
-        | else-is_spare w ↦ w.total-is
-            ∙ count_other a.ranks.now a.end1.now a.end2.now a.cost.now a.mark.now a.mask.now c.loop-e.e c.loop-e.total
-            c.loop-e.invariant.1 c.is_spare.ensures w.if-is_spare.false
-      ],
-    )
-
-pub returns : goal.returns
-returns c =
-    let all : c.loop-e.e ≡ c.args.edges = omega arith in
-    rw all at c.loop-e.invariant.1
+    let a = c.args in
+    elim c.if-is_spare.branch [
+      | then-is_spare w ↦ w.total-is
+          ∙ count_spare a.ranks.now a.end1.now a.end2.now a.cost.now a.mark.now a.mask.now c.loop-e.e c.loop-e.total
+          c.loop-e.invariant c.is_spare.ensures w.if-is_spare.true w.ranks_within-total.result
+          (w.ranks_within-total.ensures _ (above_within (get_or a.cost.now c.loop-e.e 0)))
+      | else-is_spare w ↦ w.total-is
+          ∙ count_other a.ranks.now a.end1.now a.end2.now a.cost.now a.mark.now a.mask.now c.loop-e.e c.loop-e.total
+          c.loop-e.invariant c.is_spare.ensures w.if-is_spare.false
+    ]

@@ -1,11 +1,7 @@
 -- `violations::count_all` meets its contract. The loop's invariant: the violations of the links passed. Assumes nothing.
-use Prim.Native.Nat.{◌-◌, ◌≤◌}
 use mathlib.Core.Path.{◌≡◌}
 use Rattle.violations.specs.Counting.{violations_at}
 use Rattle.violations.proofs.count_all.Given as goal
 
 abbrev pub invariant-loop-e : goal.invariant-loop-e
-invariant-loop-e l = (l.e ≤ l.edges) × (l.total ≡ violations_at l.e l.ranks l.end1 l.end2 l.cost l.mark l.mask)
-
-abbrev pub decreases-loop-e : goal.decreases-loop-e
-decreases-loop-e l = l.edges - l.e
+invariant-loop-e l = l.total ≡ violations_at l.e l.ranks l.end1 l.end2 l.cost l.mark l.mask

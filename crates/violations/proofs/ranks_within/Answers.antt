@@ -15,22 +15,6 @@ use Rattle.violations.proofs.ranks_within.Goals.{Start, else-is_within, then-is_
 abbrev priced : Start → (ℕ → Bool) → ℕ → Bool
 priced s p k = p (cost_at s.args.cost.now s.args.ranks.now k)
 
-pub between_ends-left-requires : goal.between_ends-left-requires
-between_ends-left-requires c =
-    c.requires.joins
-
-pub loop-left-init : goal.loop-left-init
-loop-left-init c =
-    let x = c.between_ends-left in (
-      λ p asks. omega arith,
-      omega arith,
-      λ k h. c.requires.by_index k (sym (x.ensures k) ∙ h),
-    )
-
-pub lowest-k-requires : goal.lowest-k-requires
-lowest-k-requires c =
-    tt
-
 pub cost_at-requires : goal.cost_at-requires
 cost_at-requires c =
     let l = c.loop-left in

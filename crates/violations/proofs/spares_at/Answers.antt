@@ -1,6 +1,6 @@
 use Prim.Native.Nat.{ℕ}
 use native.Mathlib.Omega.{arith}
-use mathlib.Core.Path.{◌≡◌, refl, sym, ◌∙◌}
+use mathlib.Core.Path.{refl, sym, ◌∙◌}
 use mathlib.Core.Bool.{Bool, ◌&&◌}
 use lib.Dec.{eqb}
 use lib.ListN.{get_or}
@@ -20,38 +20,18 @@ is_one s e =
 pub loop-at-init : goal.loop-at-init
 unfolding sum
 loop-at-init c =
-    (omega arith, refl)
-
-pub overflow_cast-s : goal.overflow_cast-s
-overflow_cast-s c =
-    omega (arith, c.requires.0)
-
-pub meets-requires : goal.meets-requires
-meets-requires c =
-    let asked = c.requires in
-    (asked.2 c.loop-at.at (omega arith), asked.1)
+    refl
 
 pub overflow_add-found : goal.overflow_add-found
 overflow_add-found c =
-    omega (arith, c.requires.0, c.loop-at.invariant.1, ones_most c.loop-at.at (is_one (goal.at.overflow_add-found c).Start))
-
-pub overflow_add-at : goal.overflow_add-at
-overflow_add-at c =
-    omega (arith, c.requires.0)
+    omega (arith, c.requires.0, c.loop-at.invariant, ones_most c.loop-at.at (is_one (goal.at.overflow_add-found c).Start))
 
 pub loop-at-preserved : goal.loop-at-preserved
 loop-at-preserved c =
-    let p = is_one (goal.at.loop-at-preserved c).Start in (
-      omega arith,
-      elim c.if-meets.branch [
-        | then-meets w ↦ w.found-is ∙ ones_yes p c.loop-at.at c.loop-at.found c.loop-at.invariant.1
-            (sym c.meets.ensures ∙ w.if-meets.true)
-        | else-meets w ↦ w.found-is ∙ ones_no p c.loop-at.at c.loop-at.found c.loop-at.invariant.1
-            (sym c.meets.ensures ∙ w.if-meets.false)
-      ],
-    )
-
-pub returns : goal.returns
-returns c =
-    let all : c.loop-at.at ≡ c.args.edges = omega arith in
-    rw all at c.loop-at.invariant.1
+    let p = is_one (goal.at.loop-at-preserved c).Start in
+    elim c.if-meets.branch [
+      | then-meets w ↦ w.found-is ∙ ones_yes p c.loop-at.at c.loop-at.found c.loop-at.invariant
+          (sym c.meets.ensures ∙ w.if-meets.true)
+      | else-meets w ↦ w.found-is ∙ ones_no p c.loop-at.at c.loop-at.found c.loop-at.invariant
+          (sym c.meets.ensures ∙ w.if-meets.false)
+    ]
