@@ -1,15 +1,16 @@
 // Answer frames: the writer of an answer held in arrays, costs in link order, tree link and spare link of the pairs by turns.
 #![tactic(auto)]
 
-ghost use Rattle.std.specs.Prelude.{◌≡◌, ◌+◌, ◌*◌, ◌<◌, ◌≤◌, leb, length, set};
+ghost use Rattle.std.specs.Prelude.{◌≡◌, ◌+◌, ◌*◌, ◌<◌, ◌≤◌, IfOk, leb, length, set};
+ghost use Rattle.limits.specs.Refusals.{refusal_in};
 ghost use Rattle.frame.specs.AnswerMeaning.{answer_frame};
 ghost use Rattle.frame.specs.Services.{written};
 ghost use Rattle.codec.specs.Numbers.{Put, outcome};
 ghost use Rattle.codec.specs.Held.{answer_front, answer_at};
 ghost use Rattle.answer.specs.Contents.{mate_pairs, PairsListed};
 
-use codec::{Reply, refused};
 use ids::Edge;
+use limits::Refusal;
 
 // How many bytes of the answer frame stand before its pairs.
 fn front_size(steps: u32, edges: usize, costs: &[u32; 256], count: usize) -> usize
@@ -70,7 +71,7 @@ fn put_answer(
 
 // Writes the answer frame at a position of the area, unless there was a refusal before; question 7.
 pub fn write_answer(
-    refusal: u32,
+    earlier: Result<(), Refusal>,
     steps: u32,
     edges: usize,
     costs: &[u32; 256],
@@ -78,25 +79,20 @@ pub fn write_answer(
     pairs: &[u32; 128],
     area: &mut [u8],
     at: usize,
-) -> Reply
-    requires { refusal ≡ 0 → (edges ≤ 256) × (count ≤ 64) }
+) -> Result<usize, Refusal>
+    requires { IfOk earlier (λ _. (edges ≤ 256) × (count ≤ 64)) }
     ensures { outcome result area.new
-        ≡ written refusal (answer_frame (answer_at steps edges costs.now count pairs.now)) at area.old }
+        ≡ written (refusal_in earlier) (answer_frame (answer_at steps edges costs.now count pairs.now)) at area.old }
 {
-    if refusal != 0 {
-        return refused(refusal);
-    }
+    earlier?;
     if area.len() < at {
-        return refused(7);
+        return Err(Refusal::Room);
     }
     if !fits(steps, edges, costs, count, pairs, area.len() - at) {
-        return refused(7);
+        return Err(Refusal::Room);
     }
     let behind = put_answer(area, at, steps, edges, costs, count, pairs);
-    Reply {
-        refusal: 0,
-        length: behind - at,
-    }
+    Ok(behind - at)
 }
 
 // Puts a pair at a place of the list.
@@ -117,16 +113,13 @@ pub fn list_pairs(edges: usize, mate: &[u32; 256], pairs: &mut [u32; 128]) -> us
     ensures { PairsListed (mate_pairs edges mate.now) result pairs.new }
 {
     let mut count: usize = 0;
-    let mut e: usize = 0;
-    while e < edges {
-        let m = mate[e];
-        if 0 < m {
+    for (e, m) in mate[..edges].iter().enumerate() {
+        if 0 < *m {
             let tree = e as u32;
-            let spare = m - 1;
+            let spare = *m - 1;
             put_pair(count, Edge(tree), Edge(spare), pairs);
             count += 1;
         }
-        e += 1;
     }
     count
 }

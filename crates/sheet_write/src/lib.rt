@@ -9,7 +9,7 @@ ghost use Rattle.sheet.specs.Sheet.{InRange, coded, moves_of, sheet_frame};
 ghost use Rattle.sheet.specs.Reading.{costs_at};
 ghost use Rattle.sheet.proofs.EntryLaws.{entries_bytes};
 
-use codec::{Reply, refused};
+use limits::Refusal;
 
 // The code of a link's change; 0 if its cost stays.
 fn change_code(old: u32, new: u32) -> u32
@@ -29,12 +29,10 @@ fn count_moved(edges: usize, old: &[u32; 256], new: &[u32; 256]) -> u32
     ensures { result ≡ length (moves_of edges (costs_at old.now) (costs_at new.now)) }
 {
     let mut count: u32 = 0;
-    let mut e: usize = 0;
-    while e < edges {
+    for e in 0..edges {
         if old[e] != new[e] {
             count += 1;
         }
-        e += 1;
     }
     count
 }
@@ -47,14 +45,12 @@ fn entries_size(edges: usize, old: &[u32; 256], new: &[u32; 256]) -> usize
     ensures { result ≡ length (entries_bytes (moves_of edges (costs_at old.now) (costs_at new.now))) }
 {
     let mut length: usize = 0;
-    let mut e: usize = 0;
-    while e < edges {
+    for e in 0..edges {
         if old[e] != new[e] {
             let code = change_code(old[e], new[e]);
             length += leb128_write::size_long(e as u32);
             length += leb128_write::size_long(code);
         }
-        e += 1;
     }
     length
 }
@@ -69,21 +65,24 @@ fn put_moves(area: &mut [u8], at: usize, edges: usize, old: &[u32; 256], new: &[
         area.new }
 {
     let mut next = at;
-    let mut e: usize = 0;
-    while e < edges {
+    for e in 0..edges {
         if old[e] != new[e] {
             let code = change_code(old[e], new[e]);
             let middle = leb128_write::write_long(area, next, e as u32);
             next = leb128_write::write_long(area, middle, code);
         }
-        e += 1;
     }
     next
 }
 
 // Writes the sheet of the new costs of the first `edges` links; question 7. A link below 256 takes at most two bytes, the code of
 // a change four, the count two: where the area has room for that, the entries are not measured.
-pub fn write_sheet(edges: usize, old: &[u32; 256], new: &[u32; 256], area: &mut [u8]) -> Reply
+pub fn write_sheet(
+    edges: usize,
+    old: &[u32; 256],
+    new: &[u32; 256],
+    area: &mut [u8],
+) -> Result<usize, Refusal>
     requires edges_bound { edges ≤ 256 }
     requires in_range { InRange edges (costs_at old.now) }
     requires in_range_2 { InRange edges (costs_at new.now) }
@@ -94,13 +93,9 @@ pub fn write_sheet(edges: usize, old: &[u32; 256], new: &[u32; 256], area: &mut 
     if area.len() < 6 * count as usize + 2 {
         let front = leb128_write::size_long(count);
         if area.len() < front + entries_size(edges, old, new) {
-            return refused(7);
+            return Err(Refusal::Room);
         }
     }
     let behind = leb128_write::write_long(area, 0, count);
-    let end = put_moves(area, behind, edges, old, new);
-    Reply {
-        refusal: 0,
-        length: end,
-    }
+    Ok(put_moves(area, behind, edges, old, new))
 }

@@ -3,7 +3,6 @@ use native.Mathlib.Omega.{arith}
 use Rattle.number.proofs.Laws.{encode_size_most}
 use Rattle.limits.specs.Limits.{number_bytes, step_bytes}
 use Rattle.codec.specs.ListLaws.{size_short}
-use Rattle.codec.specs.HeldLaws.{front_length}
 use Rattle.answer.proofs.front_size.Goals as goal
 
 pub overflow_add-result : goal.overflow_add-result
@@ -23,9 +22,3 @@ overflow_add-result-2 c =
       c.size_long.ensures,
       encode_size_most step_bytes a.steps,
     )
-
-pub returns : goal.returns
-returns c =
-    let a = c.args in
-    let whole = front_length a.steps a.edges a.costs.now a.count in
-    omega (arith, whole, c.size_short.ensures, c.numbers_size.ensures, c.size_long.ensures)

@@ -25,11 +25,6 @@ room :
 room steps edges costs count pairs at n r =
     omega (arith, r, front_length steps edges costs count, answer_length steps edges costs count pairs)
 
-pub write_long-first-requires : goal.write_long-first-requires
-write_long-first-requires c =
-    let a = c.args in
-    omega (arith, room a.steps a.edges a.costs.now a.count a.pairs.now _ _ c.requires.pairs_in_bounds)
-
 -- The steps put.
 pub write_numbers-middle-requires-clause-values_in_bounds : goal.write_numbers-middle-requires-clause-values_in_bounds
 write_numbers-middle-requires-clause-values_in_bounds c =

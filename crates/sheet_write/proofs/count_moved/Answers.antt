@@ -1,5 +1,5 @@
 -- `sheet_write::count_moved` meets its contract. The loop's invariant: the entries of the links passed are counted. Assumes nothing.
-use mathlib.Core.Path.{◌≡◌, refl, sym, ap, ◌∙◌}
+use mathlib.Core.Path.{refl, sym, ap, ◌∙◌}
 use native.Mathlib.Omega.{arith}
 use lib.ListN.{length}
 use Rattle.loops.specs.Loop.{gather}
@@ -11,7 +11,7 @@ use Rattle.sheet_write.proofs.count_moved.Goals.{then-old-e, else-old-e}
 
 pub loop-e-init : goal.loop-e-init
 unfolding gather
-loop-e-init c = record { passed = omega arith; counted = refl }
+loop-e-init c = refl
 
 pub overflow_add-count : goal.overflow_add-count
 overflow_add-count c =
@@ -24,15 +24,7 @@ loop-e-preserved c =
     let old = costs_at a.old.now in
     let new = costs_at a.new.now in
     let l = c.loop-e in
-    record {
-      passed = omega arith;
-      counted = elim c.if-old-e.branch [
-        | then-old-e w ↦ w.count-is ∙ omega (arith, l.invariant.counted, moves_count old new l.e w.if-old-e.true)
-        | else-old-e w ↦ w.count-is ∙ l.invariant.counted ∙ ap length (sym (moves_stay old new l.e w.if-old-e.false))
-      ];
-    }
-
-pub returns : goal.returns
-returns c =
-    let all : c.loop-e.e ≡ c.args.edges = omega arith in
-    rw all at c.loop-e.invariant.counted
+    elim c.if-old-e.branch [
+      | then-old-e w ↦ w.count-is ∙ omega (arith, l.invariant, moves_count old new l.e w.if-old-e.true)
+      | else-old-e w ↦ w.count-is ∙ l.invariant ∙ ap length (sym (moves_stay old new l.e w.if-old-e.false))
+    ]

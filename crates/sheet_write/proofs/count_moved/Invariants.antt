@@ -1,5 +1,4 @@
 -- `sheet_write::count_moved` meets its contract. The loop's invariant: the entries of the links passed are counted. Assumes nothing.
-use Prim.Native.Nat.{◌-◌, ◌≤◌}
 use mathlib.Core.Path.{◌≡◌}
 use lib.ListN.{length}
 use Rattle.sheet.specs.Sheet.{moves_of}
@@ -7,10 +6,4 @@ use Rattle.sheet.specs.Reading.{costs_at}
 use Rattle.sheet_write.proofs.count_moved.Given as goal
 
 abbrev pub invariant-loop-e : goal.invariant-loop-e
-invariant-loop-e l = record {
-  passed : l.e ≤ l.edges;
-  counted : l.count ≡ length (moves_of l.e (costs_at l.old) (costs_at l.new));
-}
-
-abbrev pub decreases-loop-e : goal.decreases-loop-e
-decreases-loop-e l = l.edges - l.e
+invariant-loop-e l = l.count ≡ length (moves_of l.e (costs_at l.old) (costs_at l.new))

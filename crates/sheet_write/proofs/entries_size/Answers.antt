@@ -1,5 +1,5 @@
 -- `sheet_write::entries_size` meets its contract. The loop's invariant: the entries of the links passed are measured. Assumes nothing.
-use mathlib.Core.Path.{◌≡◌, refl, sym, ap, ◌∙◌}
+use mathlib.Core.Path.{refl, sym, ap, ◌∙◌}
 use mathlib.Core.List.{List, flat_map}
 use native.Mathlib.Omega.{arith}
 use lib.ListN.{length as size}
@@ -16,11 +16,7 @@ use Rattle.sheet_write.proofs.entries_size.Goals.{then-old-e, else-old-e}
 
 pub loop-e-init : goal.loop-e-init
 unfolding gather flat_map
-loop-e-init c = record { passed = omega arith; measured = refl }
-
-pub change_code-code-requires : goal.change_code-code-requires
-change_code-code-requires c =
-    record { le_max_number = c.requires.in_range _ (omega arith); le_max_number_2 = c.requires.in_range_2 _ (omega arith) }
+loop-e-init c = refl
 
 -- The entries so far are short.
 pub overflow_add-length : goal.overflow_add-length
@@ -31,8 +27,7 @@ overflow_add-length c =
     omega (
       arith,
       short,
-      l.invariant.measured,
-      l.invariant.passed,
+      l.invariant,
       c.requires.edges_bound,
       c.size_long-length.ensures,
       encode_size_most change_bytes l.e,
@@ -46,8 +41,7 @@ overflow_add-length-then-old-e c =
     omega (
       arith,
       short,
-      l.invariant.measured,
-      l.invariant.passed,
+      l.invariant,
       c.requires.edges_bound,
       c.size_long-length.ensures,
       encode_size_most change_bytes l.e,
@@ -61,25 +55,17 @@ loop-e-preserved c =
     let old = costs_at a.old.now in
     let new = costs_at a.new.now in
     let l = c.loop-e in
-    record {
-      passed = omega arith;
-      measured = elim c.if-old-e.branch [
-        | then-old-e w ↦
-            let code = w.change_code-code in
-            w.length-is
-            ∙ omega (
-              arith,
-              l.invariant.measured,
-              w.size_long-length.ensures,
-              w.size_long-length-then-old-e.ensures,
-              moves_size old new l.e w.if-old-e.true code.result code.ensures,
-            )
-        | else-old-e w ↦
-            w.length-is ∙ l.invariant.measured ∙ ap (λ (ks : List Move). size (entries_bytes ks)) (sym (moves_stay old new l.e w.if-old-e.false))
-      ];
-    }
-
-pub returns : goal.returns
-returns c =
-    let all : c.loop-e.e ≡ c.args.edges = omega arith in
-    rw all at c.loop-e.invariant.measured
+    elim c.if-old-e.branch [
+      | then-old-e w ↦
+          let code = w.change_code-code in
+          w.length-is
+          ∙ omega (
+            arith,
+            l.invariant,
+            w.size_long-length.ensures,
+            w.size_long-length-then-old-e.ensures,
+            moves_size old new l.e w.if-old-e.true code.result code.ensures,
+          )
+      | else-old-e w ↦
+          w.length-is ∙ l.invariant ∙ ap (λ (ks : List Move). size (entries_bytes ks)) (sym (moves_stay old new l.e w.if-old-e.false))
+    ]

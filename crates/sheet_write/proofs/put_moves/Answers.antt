@@ -30,18 +30,14 @@ room old new edges at n e code fits l moved is =
 
 pub loop-e-init : goal.loop-e-init
 unfolding gather flat_map
-loop-e-init c = record { passed = omega arith; put = record { next = omega arith; area = refl } }
-
-pub change_code-code-requires : goal.change_code-code-requires
-change_code-code-requires c =
-    record { le_max_number = c.requires.in_range _ (omega arith); le_max_number_2 = c.requires.in_range_2 _ (omega arith) }
+loop-e-init c = record { next = omega arith; area = refl }
 
 pub write_long-middle-requires : goal.write_long-middle-requires
 write_long-middle-requires c =
     let a = c.args in
     let fits = room (costs_at a.old.now) (costs_at a.new.now) a.edges a.at _ c.loop-e.e c.change_code-code.result
     c.requires.in_bounds (omega arith) c.if-old-e.true c.change_code-code.ensures in
-    put_room _ _ _ _ _ _ c.loop-e.invariant.put (omega (arith, fits))
+    put_room _ _ _ _ _ _ c.loop-e.invariant (omega (arith, fits))
 
 pub write_long-next-requires : goal.write_long-next-requires
 write_long-next-requires c =
@@ -49,7 +45,7 @@ write_long-next-requires c =
     let fits = room (costs_at a.old.now) (costs_at a.new.now) a.edges a.at _ c.loop-e.e c.change_code-code.result
     c.requires.in_bounds (omega arith) c.if-old-e.true c.change_code-code.ensures in
     let w = c.write_long-middle in
-    put_room _ _ _ _ _ _ (put_more _ _ _ _ _ _ _ _ c.loop-e.invariant.put w.ensures.next w.ensures.area)
+    put_room _ _ _ _ _ _ (put_more _ _ _ _ _ _ _ _ c.loop-e.invariant w.ensures.next w.ensures.area)
     (simp length-append (omega (arith, fits)))
 
 pub loop-e-preserved : goal.loop-e-preserved
@@ -58,22 +54,14 @@ loop-e-preserved c =
     let old = costs_at a.old.now in
     let new = costs_at a.new.now in
     let l = c.loop-e in
-    record {
-      passed = omega arith;
-      put = elim c.if-old-e.branch [
-        | then-old-e w ↦
-            let code = w.change_code-code in
-            let link = w.write_long-middle in
-            let change = w.write_long-next in
-            rw (w.area-is, w.next-is, moves_bytes old new l.e w.if-old-e.true code.result code.ensures)
-            (put_more _ _ _ _ _ _ _ _
-            (put_more _ _ _ _ _ _ _ _ l.invariant.put link.ensures.next link.ensures.area)
-            change.ensures.next change.ensures.area)
-        | else-old-e w ↦ rw (w.area-is, w.next-is, moves_stay old new l.e w.if-old-e.false) l.invariant.put
-      ];
-    }
-
-pub returns : goal.returns
-returns c =
-    let all : c.loop-e.e ≡ c.args.edges = omega arith in
-    rw all at c.loop-e.invariant.put
+    elim c.if-old-e.branch [
+      | then-old-e w ↦
+          let code = w.change_code-code in
+          let link = w.write_long-middle in
+          let change = w.write_long-next in
+          rw (w.area-is, w.next-is, moves_bytes old new l.e w.if-old-e.true code.result code.ensures)
+          (put_more _ _ _ _ _ _ _ _
+          (put_more _ _ _ _ _ _ _ _ l.invariant link.ensures.next link.ensures.area)
+          change.ensures.next change.ensures.area)
+      | else-old-e w ↦ rw (w.area-is, w.next-is, moves_stay old new l.e w.if-old-e.false) l.invariant
+    ]

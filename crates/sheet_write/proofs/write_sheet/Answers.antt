@@ -52,8 +52,7 @@ pub returns-then-area-front : goal.returns-then-area-front
 returns-then-area-front c =
     let a = c.args in
     let moves = moves_of a.edges (costs_at a.old.now) (costs_at a.new.now) in
-    rw c.refused.ensures
-    (put_short 0 (sheet_frame moves) 0 a.area.now refl
+    put_short 0 (sheet_frame moves) 0 a.area.now refl
     (omega (
       arith,
       c.if-area-front.true,
@@ -61,7 +60,7 @@ returns-then-area-front c =
       c.entries_size.ensures,
       count_size _ _ c.count_moved-count.ensures,
       parts moves,
-    )))
+    ))
 
 pub write_long-behind-requires : goal.write_long-behind-requires
 write_long-behind-requires c =
@@ -88,8 +87,8 @@ write_long-behind-requires c =
     ] in
     omega (arith, fits, count_size _ _ c.count_moved-count.ensures, parts moves)
 
-pub put_moves-end-requires-clause-in_bounds : goal.put_moves-end-requires-clause-in_bounds
-put_moves-end-requires-clause-in_bounds c =
+pub put_moves-requires-clause-in_bounds : goal.put_moves-requires-clause-in_bounds
+put_moves-requires-clause-in_bounds c =
     let a = c.args in
     let moves = moves_of a.edges (costs_at a.old.now) (costs_at a.new.now) in
     let fits : length (sheet_frame moves) ≤ length a.area.now =
@@ -139,7 +138,7 @@ returns c =
           )
     ] in
     let w = c.write_long-behind in
-    let z = c.put_moves-end in
+    let z = c.put_moves in
     let done = subst (λ (bytes : List ℕ). Put a.area.now 0 bytes z.result z.new.area) (sym (sheet_parts moves))
     (put_more _ _ _ _ _ _ _ _ (count_put _ _ _ _ _ c.count_moved-count.ensures w.ensures.next w.ensures.area) z.ensures.next z.ensures.area) in
     put_whole 0 (sheet_frame moves) 0 a.area.now _ _ refl (omega (arith, fits)) (omega (arith, done.next)) done.area
