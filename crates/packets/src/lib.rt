@@ -47,16 +47,13 @@ pub fn step_cost(cost: u32, up: bool) -> u32
     requires { cost ≤ max_number }
     ensures { result ≡ stepped up cost }
 {
-    if up {
-        if cost < MOST_NUMBER {
-            return cost + 1;
-        }
-        return cost;
+    if !up {
+        return cost.saturating_sub(1);
     }
-    if cost == 0 {
-        return 0;
+    if cost < MOST_NUMBER {
+        return cost + 1;
     }
-    cost - 1
+    cost
 }
 
 // Hears the packets of a log from a position on: each moves a cost. False, if it is no log from there on, and then the costs may be
