@@ -11,38 +11,35 @@ ghost use Rattle.replay.specs.Log.{stepped, replayed};
 ghost use Rattle.replay.specs.LogReading.{read_log};
 ghost use Rattle.packets.specs.Packets.{packet_at};
 
-use leb128::Number;
 use limits::MOST_NUMBER;
 
-// What stands at a position of a log.
+// A packet of a log: a link, whether its cost goes up, and the position behind them.
 #[derive(Clone, Copy)]
-pub enum Packet {
-    // A link, whether its cost goes up, and the position behind them.
-    Step(u32, bool, usize),
-    // No packet of a link of the job.
-    Refused,
+pub struct Packet {
+    pub edge: u32,
+    pub up: bool,
+    pub next: usize,
 }
 
-// The packet at a position of a log to a job of so many links.
-pub fn packet_at(log: &[u8], at: usize, edges: usize) -> Packet
+// The packet at a position of a log to a job of so many links; none if no packet of one of these links stands there.
+pub fn packet_at(log: &[u8], at: usize, edges: usize) -> Option<Packet>
     ensures { result ≡ packet_at edges log.now at }
 {
-    let number = leb128::read_long(log, at);
-    let Number::Value(edge, middle) = number else {
-        return Packet::Refused;
-    };
+    let link = leb128::read_long(log, at)?;
+    let edge = link.value;
     if edges <= edge as usize {
-        return Packet::Refused;
-    }
-    if log.len() <= middle {
-        return Packet::Refused;
+        return None;
     }
     // 0 and 1 in shortest form are one byte.
-    let direction = log[middle];
+    let direction = *log.get(link.next)?;
     if 1 < direction {
-        return Packet::Refused;
+        return None;
     }
-    Packet::Step(edge, direction == 1, middle + 1)
+    Some(Packet {
+        edge,
+        up: direction == 1,
+        next: link.next + 1,
+    })
 }
 
 // A cost after one step; one that would leave 0 to 2,097,151 stays.
@@ -50,16 +47,13 @@ pub fn step_cost(cost: u32, up: bool) -> u32
     requires { cost ≤ max_number }
     ensures { result ≡ stepped up cost }
 {
-    if up {
-        if cost < MOST_NUMBER {
-            return cost + 1;
-        }
-        return cost;
+    if !up {
+        return cost.saturating_sub(1);
     }
-    if cost == 0 {
-        return 0;
+    if cost < MOST_NUMBER {
+        return cost + 1;
     }
-    cost - 1
+    cost
 }
 
 // Hears the packets of a log from a position on: each moves a cost. False, if it is no log from there on, and then the costs may be
@@ -73,13 +67,12 @@ pub fn hear_rest(log: &[u8], from: usize, edges: usize, costs: &mut [u32; 256]) 
 {
     let mut at = from;
     while at < log.len() {
-        let packet = packet_at(log, at, edges);
-        let Packet::Step(edge, up, next) = packet else {
+        let Some(packet) = packet_at(log, at, edges) else {
             return false;
         };
-        let place = edge as usize;
-        costs[place] = step_cost(costs[place], up);
-        at = next;
+        let place = packet.edge as usize;
+        costs[place] = step_cost(costs[place], packet.up);
+        at = packet.next;
     }
     true
 }

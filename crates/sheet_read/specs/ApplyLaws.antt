@@ -3,10 +3,12 @@ use Prim.Native.Nat.{ℕ, zero, suc, ◌+◌, ◌-◌, ◌/◌, ◌%◌, ◌<◌
 use Rattle.std.proofs.Math.Decide.{ℕ_discrete}
 use Rattle.std.proofs.Math.Numerals.{add-one}
 use native.Mathlib.Omega.{arith}
-use Rattle.std.specs.Prelude.{◌≡◌, refl, Bool, true, false, List, eqb, ℤ, pos, ◌+ℤ◌, set, drop}
+use Rattle.std.specs.Prelude.{◌≡◌, refl, Bool, true, false, List, eqb, ℤ, pos, ◌+ℤ◌, Option, Some, None, SomeIff, set, drop}
 use Rattle.std.proofs.Math.Path.{sym, ap}
 use Rattle.std.proofs.Common.{◌∙◌, length-drop, drop_of_length-le, drop-cons, take_all, get_or-set_same, get_or-set_other}
-use Rattle.std.proofs.Math.Option.{Option, some, none}
+use Rattle.std.proofs.Math.Option.{some, none}
+use Rattle.std.proofs.Math.Option as maybe
+use Rattle.std.proofs.lemmas.Option.{none-some, same_Some}
 use Rattle.std.proofs.Math.ListN.{length}
 use Rattle.std.proofs.Math.Seq.{drop-drop, sets}
 use borrow.Author.Tests.{eq-eqb, ne_eqb, le-leb, lt-leb, lt-ltb, le-ltb}
@@ -17,10 +19,9 @@ use Rattle.number.specs.Number.{Bytes, decode}
 use Rattle.number.specs.Number.Decoded.{number}
 use Rattle.number.proofs.Laws.{decode_size}
 use Rattle.leb128.specs.Positions.{read_at, located_value, located_refused}
-use Rattle.leb128.specs.declared.Number.TheVariants as Read
+use Rattle.leb128.specs.declared.Number.{Number}
 use Rattle.frame.specs.Questions.{numbers}
 use Rattle.frame.proofs.Division.{division}
-use Rattle.division.specs.declared.Numbers.TheVariants as Counted
 use Rattle.division.specs.Counting.{count_from}
 use Rattle.division.specs.CountingLaws.{counted_some, counted_none}
 use Rattle.codec.specs.Numbers.{numbers_at, Divided, Loaded, loaded_at, loaded}
@@ -31,60 +32,64 @@ use Rattle.sheet.specs.Reading.{costs_from, read_costs, costs_at, with_code, wit
 use Rattle.sheet.specs.Reading.{apply_from, behind_count, apply_sheet}
 use Rattle.sheet.proofs.ChangeLaws.{cost_found}
 use Rattle.sheet.proofs.EntryLaws.{entry_size}
-use Rattle.sheet_read.specs.declared.Entry.TheVariants.{Moved, Refused}
-use Rattle.sheet_read.specs.declared.Cost.TheVariants.{Inside, Outside}
+use Rattle.sheet_read.specs.declared.Entry.{Entry}
 use Rattle.sheet_read.specs.Applying.{entered, entry_at, in_range, given}
 
 -- What was found, by the word of the code.
-pub given_some : {A : Type 0} (b : Bool) (x : A) (o : Option A) → b ≡ true → given b x ≡ o → some x ≡ o
+pub given_some : {A : Type 0} (b : Bool) (x : A) (o : maybe.Option A) → b ≡ true → given b x ≡ o → some x ≡ o
 given_some true x o e q = q
 given_some false x o e q = clash e refl
 
-pub given_none : {A : Type 0} (b : Bool) (x : A) (o : Option A) → b ≡ false → given b x ≡ o → none ≡ o
+pub given_none : {A : Type 0} (b : Bool) (x : A) (o : maybe.Option A) → b ≡ false → given b x ≡ o → none ≡ o
 given_none true x o e q = clash refl e
 given_none false x o e q = q
 
 -- ---- an entry
 
 module _ (s : List ℕ) (at : ℕ) where
-  pub no_link_lem : read_at change_bytes s at ≡ Read.Refused → Refused ≡ entry_at s at
+  pub no_link_lem : read_at change_bytes s at ≡ None → None ≡ entry_at s at
   unfolding entered with_link
-  no_link_lem e = rw (located_refused at (decode change_bytes (drop at s)) e)
+  no_link_lem q = rw (located_refused at (decode change_bytes (drop at s)) q)
 
-  module _ (e middle : ℕ) (q : read_at change_bytes s at ≡ Read.Value e middle) where
+  module _ (link : Number) (q : read_at change_bytes s at ≡ Some link) where
     -- The link in front, and the bytes behind it.
-    linked : (n : ℕ) × (middle ≡ at + n) × (entry_at s at ≡ entered at (with_code e n (decode change_bytes (drop middle s))))
+    linked : (n : ℕ) × (link.next ≡ at + n) × (entry_at s at ≡ entered at (with_code link.value n (decode change_bytes (drop link.next s))))
     unfolding with_link
     linked =
-        let (n, here, there) = located_value at (decode change_bytes (drop at s)) e middle q in
+        let (n, here, there) = located_value at (decode change_bytes (drop at s)) link q in
         (n, there, behind n here there)
       where
         behind :
-            (n : ℕ) → decode change_bytes (drop at s) ≡ number e n → middle ≡ at + n
-            → entry_at s at ≡ entered at (with_code e n (decode change_bytes (drop middle s)))
+            (n : ℕ) → decode change_bytes (drop at s) ≡ number link.value n → link.next ≡ at + n
+            → entry_at s at ≡ entered at (with_code link.value n (decode change_bytes (drop link.next s)))
         behind n here there = rw (here, drop-drop n at s, ← there)
 
-    pub no_code : read_at change_bytes s middle ≡ Read.Refused → Refused ≡ entry_at s at
+    pub no_code : read_at change_bytes s link.next ≡ None → None ≡ entry_at s at
     unfolding entered with_code
-    no_code f = sym (linked.2 ∙ rw (located_refused middle (decode change_bytes (drop middle s)) f))
+    no_code f = sym (linked.2 ∙ rw (located_refused link.next (decode change_bytes (drop link.next s)) f))
 
-    pub entry_whole : (z next : ℕ) → read_at change_bytes s middle ≡ Read.Value z next → Moved e z next ≡ entry_at s at
+    pub entry_whole :
+        (code : Number) → read_at change_bytes s link.next ≡ Some code
+        → Some (record { edge = link.value; code = code.value; next = code.next }) ≡ entry_at s at
     unfolding entered with_code
-    entry_whole z next f =
+    entry_whole code f =
         let (n, there, whole) = linked in
-        let (k, here', there') = located_value middle (decode change_bytes (drop middle s)) z next f in
-        let behind : at + (n + k) ≡ next = omega (arith, there, there') in
+        let (k, here', there') = located_value link.next (decode change_bytes (drop link.next s)) code f in
+        let behind : at + (n + k) ≡ code.next = omega (arith, there, there') in
         sym (whole ∙ rw (here', behind))
 
 -- What an entry at a position says of the model's.
-entered_moved : (at : ℕ) (x : Model.Entry) (e z next : ℕ) → Moved e z next ≡ entered at x → (k : ℕ) × (x ≡ Model.Entry.entry e z k) × (next ≡ at + k)
+entered_moved :
+    (at : ℕ) (x : Model.Entry) (m : Entry) → Some m ≡ entered at x → (k : ℕ) × (x ≡ Model.Entry.entry m.edge m.code k) × (m.next ≡ at + k)
 unfolding entered
-entered_moved at (Model.Entry.entry e' z' k) e z next q = (k, cc, cc)
-entered_moved at Model.Entry.unread e z next q = let z : ◌≡◌ {A = ℕ} 0 1 = cc in absurd (omega arith)
+entered_moved at (Model.Entry.entry e z k) m q =
+    let same = same_Some m _ q in
+    (k, ap (λ (m : Entry). Model.Entry.entry m.edge m.code k) (sym same), ap (λ (m : Entry). m.next) same)
+entered_moved at Model.Entry.unread m q = absurd (none-some m (sym q))
 
-entered_refused : (at : ℕ) (x : Model.Entry) → Refused ≡ entered at x → x ≡ Model.Entry.unread
+entered_refused : (at : ℕ) (x : Model.Entry) → None ≡ entered at x → x ≡ Model.Entry.unread
 unfolding entered
-entered_refused at (Model.Entry.entry e z k) q = let z : ◌≡◌ {A = ℕ} 0 1 = cc in absurd (omega arith)
+entered_refused at (Model.Entry.entry e z k) q = absurd (none-some _ q)
 entered_refused at Model.Entry.unread q = refl
 
 -- ---- a new cost
@@ -95,36 +100,42 @@ module _ (old code : ℕ) (low : old ≤ max_number) where
   unfolding change_from
   rises e = rw (eq-eqb (code % 2) 0 e)
 
-  pub risen_out : code % 2 ≡ 0 → max_number - old < code / 2 → Outside ≡ in_range (cost_from (pos old +ℤ change_from code))
+  pub risen_out : code % 2 ≡ 0 → max_number - old < code / 2 → None ≡ in_range (cost_from (pos old +ℤ change_from code))
   unfolding in_range cost_from
   risen_out e l = sym (ap in_range (rises e) ∙ rw (lt-leb (old + code / 2) max_number (omega arith)))
 
-  pub risen : code % 2 ≡ 0 → code / 2 ≤ max_number - old → Inside (old + code / 2) ≡ in_range (cost_from (pos old +ℤ change_from code))
+  pub risen : code % 2 ≡ 0 → code / 2 ≤ max_number - old → Some (old + code / 2) ≡ in_range (cost_from (pos old +ℤ change_from code))
   unfolding in_range cost_from
   risen e l = sym (ap in_range (rises e) ∙ rw (le-leb (old + code / 2) max_number (omega arith)))
 
-  pub fallen_out : (code % 2 ≡ 0 → ⊥) → old ≤ code / 2 → Outside ≡ in_range (cost_from (pos old +ℤ change_from code))
+  fallen_out : (code % 2 ≡ 0 → ⊥) → old < code / 2 + 1 → None ≡ in_range (cost_from (pos old +ℤ change_from code))
   unfolding in_range cost_from change_from
   fallen_out n l = rw (ne_eqb (code % 2) 0 n, lt-ltb old (suc (code / 2)) (omega arith))
 
-  pub fallen : (code % 2 ≡ 0 → ⊥) → code / 2 < old → Inside (old - code / 2 - 1) ≡ in_range (cost_from (pos old +ℤ change_from code))
+  fallen_to : (code % 2 ≡ 0 → ⊥) → code / 2 + 1 ≤ old → Some (old - (code / 2 + 1)) ≡ in_range (cost_from (pos old +ℤ change_from code))
   unfolding in_range cost_from change_from
-  fallen n l =
-      let same : old - suc (code / 2) ≡ old - code / 2 - 1 = omega arith in
-      rw (ne_eqb (code % 2) 0 n, le-ltb old (suc (code / 2)) (omega arith), same, le-leb (old - code / 2 - 1) max_number (omega arith))
+  fallen_to n l =
+      let same : old - suc (code / 2) ≡ old - (code / 2 + 1) = omega arith in
+      rw (ne_eqb (code % 2) 0 n, le-ltb old (suc (code / 2)) (omega arith), same, le-leb (old - (code / 2 + 1)) max_number (omega arith))
 
-inside_some : (o : Option ℕ) (v : ℕ) → Inside v ≡ in_range o → o ≡ some v
+  pub fallen :
+      (code % 2 ≡ 0 → ⊥) → (o : Option ℕ) → SomeIff o (code / 2 + 1 ≤ old) (old - (code / 2 + 1))
+      → o ≡ in_range (cost_from (pos old +ℤ change_from code))
+  fallen n None below = fallen_out n (omega arith)
+  fallen n (Some v) (l, q) = ap Some q ∙ fallen_to n l
+
+inside_some : (o : maybe.Option ℕ) (v : ℕ) → Some v ≡ in_range o → o ≡ some v
 unfolding in_range
-inside_some (some u) v q = cc
-inside_some none v q = let z : ◌≡◌ {A = ℕ} 0 1 = cc in absurd (omega arith)
+inside_some (some u) v q = ap some (sym (same_Some v u q))
+inside_some none v q = absurd (none-some v (sym q))
 
 -- A cost inside the range is at most the largest.
-pub inside_small : (z : ℤ) (v : ℕ) → Inside v ≡ in_range (cost_from z) → v ≤ max_number
+pub inside_small : (z : ℤ) (v : ℕ) → Some v ≡ in_range (cost_from z) → v ≤ max_number
 inside_small z v q = (cost_found z v (inside_some (cost_from z) v q)).1
 
-outside_none : (o : Option ℕ) → Outside ≡ in_range o → o ≡ none
+outside_none : (o : maybe.Option ℕ) → None ≡ in_range o → o ≡ none
 unfolding in_range
-outside_none (some u) q = let z : ◌≡◌ {A = ℕ} 0 1 = cc in absurd (omega arith)
+outside_none (some u) q = absurd (none-some u q)
 outside_none none q = refl
 
 pub in_range_set : (m : ℕ) (xs : List ℕ) (i v : ℕ) → i < length xs → v ≤ max_number → InRange m (costs_at xs) → InRange m (costs_at (set xs i v))
@@ -137,23 +148,24 @@ in_range_set m xs i v l low h e k =
 -- ---- the count in front
 
 module _ (m : ℕ) (c : ℕ → ℕ) (s : List ℕ) where
-  pub no_count : read_at change_bytes s 0 ≡ Read.Refused → none ≡ apply_sheet m c s
+  pub no_count : read_at change_bytes s 0 ≡ None → none ≡ apply_sheet m c s
   unfolding behind_count
-  no_count e = rw (located_refused 0 (decode change_bytes s) e)
+  no_count q = rw (located_refused 0 (decode change_bytes s) q)
 
-  pub count_read : (n behind : ℕ) → read_at change_bytes s 0 ≡ Read.Value n behind
-      → (behind ≤ length s) × (apply_from m n 0 c (drop behind s) ≡ apply_sheet m c s)
+  pub count_read :
+      (count : Number) → read_at change_bytes s 0 ≡ Some count
+      → (count.next ≤ length s) × (apply_from m count.value 0 c (drop count.next s) ≡ apply_sheet m c s)
   unfolding behind_count
-  count_read n behind e =
-      let (k, here, there) = located_value 0 (decode change_bytes s) n behind e in
-      let same : behind ≡ k = omega (arith, there) in (
-        omega (arith, same, decode_size change_bytes s n k here),
-        ap (λ (i : ℕ). apply_from m n 0 c (drop i s)) same ∙ sym (ap (behind_count m c s) here),
+  count_read count q =
+      let (k, here, there) = located_value 0 (decode change_bytes s) count q in
+      let same : count.next ≡ k = omega (arith, there) in (
+        omega (arith, same, decode_size change_bytes s count.value k here),
+        ap (λ (i : ℕ). apply_from m count.value 0 c (drop i s)) same ∙ sym (ap (behind_count m c s) here),
       )
 
 -- ---- a turn
 
-module _ (m left least : ℕ) (c : ℕ → ℕ) (s : List ℕ) (at : ℕ) (whole : Option (ℕ → ℕ)) (go : 0 < left)
+module _ (m left least : ℕ) (c : ℕ → ℕ) (s : List ℕ) (at : ℕ) (whole : maybe.Option (ℕ → ℕ)) (go : 0 < left)
     (rest : apply_from m left least c (drop at s) ≡ whole) where
   -- What the model does next, with the entry at hand.
   next_entry : move_by m least c (entry_of (drop at s)) (λ k least' c'. apply_from m (left - 1) least' c' (drop k (drop at s))) ≡ whole
@@ -166,40 +178,42 @@ module _ (m left least : ℕ) (c : ℕ → ℕ) (s : List ℕ) (at : ℕ) (whole
       of zero l q = absurd (omega arith)
       of (suc n) l q = let same : suc n - 1 ≡ n = omega arith in rw same q
 
-  pub apply_unread : Refused ≡ entry_at s at → none ≡ whole
+  pub apply_unread : None ≡ entry_at s at → none ≡ whole
   unfolding move_by
   apply_unread q = rw (entered_refused at (entry_of (drop at s)) q) at next_entry
 
-  module _ (e z next : ℕ) (q : Moved e z next ≡ entry_at s at) where
-    pub apply_barred : may_move m least e z ≡ false → none ≡ whole
+  module _ (x : Entry) (q : Some x ≡ entry_at s at) where
+    pub apply_barred : may_move m least x.edge x.code ≡ false → none ≡ whole
     unfolding move_by
     apply_barred b =
-        let (k, here, there) = entered_moved at (entry_of (drop at s)) e z next q in
+        let (k, here, there) = entered_moved at (entry_of (drop at s)) x q in
         rw (here, b) at next_entry
 
-    module _ (may : may_move m least e z ≡ true) where
-      pub apply_out : Outside ≡ in_range (cost_from (pos (c e) +ℤ change_from z)) → none ≡ whole
+    module _ (may : may_move m least x.edge x.code ≡ true) where
+      pub apply_out : None ≡ in_range (cost_from (pos (c x.edge) +ℤ change_from x.code)) → none ≡ whole
       unfolding move_by move_to
       apply_out o =
-          let (k, here, there) = entered_moved at (entry_of (drop at s)) e z next q in
-          rw (here, may, outside_none (cost_from (pos (c e) +ℤ change_from z)) o) at next_entry
+          let (k, here, there) = entered_moved at (entry_of (drop at s)) x q in
+          rw (here, may, outside_none (cost_from (pos (c x.edge) +ℤ change_from x.code)) o) at next_entry
 
-      pub apply_turn : (v : ℕ) → Inside v ≡ in_range (cost_from (pos (c e) +ℤ change_from z))
-          → apply_from m (left - 1) (e + 1) (put c e v) (drop next s) ≡ whole
+      pub apply_turn :
+          (v : ℕ) → Some v ≡ in_range (cost_from (pos (c x.edge) +ℤ change_from x.code))
+          → apply_from m (left - 1) (x.edge + 1) (put c x.edge v) (drop x.next s) ≡ whole
       unfolding move_by move_to
       apply_turn v o =
-          let (k, here, there) = entered_moved at (entry_of (drop at s)) e z next q in
-          rw (here, may, inside_some (cost_from (pos (c e) +ℤ change_from z)) v o, drop-drop k at s, ← there, ← add-one e) at next_entry
+          let (k, here, there) = entered_moved at (entry_of (drop at s)) x q in
+          let to = inside_some (cost_from (pos (c x.edge) +ℤ change_from x.code)) v o in
+          rw (here, may, to, drop-drop k at s, ← there, ← add-one x.edge) at next_entry
 
 -- The position behind an entry is within the sheet.
-pub entry_within : (s : List ℕ) (at e z next : ℕ) → at ≤ length s → Moved e z next ≡ entry_at s at → next ≤ length s
-entry_within s at e z next l q =
-    let (k, here, there) = entered_moved at (entry_of (drop at s)) e z next q in
-    omega (arith, there, entry_size (drop at s) e z k here, length-drop at s)
+pub entry_within : (s : List ℕ) (at : ℕ) (x : Entry) → at ≤ length s → Some x ≡ entry_at s at → x.next ≤ length s
+entry_within s at x l q =
+    let (k, here, there) = entered_moved at (entry_of (drop at s)) x q in
+    omega (arith, there, entry_size (drop at s) x.edge x.code k here, length-drop at s)
 
 -- The last turn is done: nothing may follow.
 pub apply_end :
-    (m left least : ℕ) (c : ℕ → ℕ) (s : List ℕ) (at : ℕ) (whole : Option (ℕ → ℕ)) → left ≡ 0 → at ≤ length s
+    (m left least : ℕ) (c : ℕ → ℕ) (s : List ℕ) (at : ℕ) (whole : maybe.Option (ℕ → ℕ)) → left ≡ 0 → at ≤ length s
     → apply_from m left least c (drop at s) ≡ whole → given (eqb at (length s)) c ≡ whole
 unfolding apply_from
 apply_end m left least c s at whole z l q =
@@ -211,11 +225,11 @@ apply_end m left least c s at whole z l q =
 -- ---- costs
 
 module _ (m : ℕ) (s : List ℕ) where
-  pub costs_undivided : count_from 0 (numbers s) ≡ Counted.Refused → none ≡ read_costs m s
+  pub costs_undivided : count_from 0 (numbers s) ≡ None → none ≡ read_costs m s
   unfolding costs_from
   costs_undivided q = rw (counted_none (numbers s) q)
 
-  module _ (total : ℕ) (q : count_from 0 (numbers s) ≡ Counted.Count total) where
+  module _ (total : ℕ) (q : count_from 0 (numbers s) ≡ Some total) where
     pub costs_wrong : (total ≡ m → ⊥) → none ≡ read_costs m s
     unfolding costs_from
     costs_wrong n =

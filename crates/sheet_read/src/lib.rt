@@ -8,71 +8,49 @@ ghost use Rattle.sheet.specs.Sheet.{InRange};
 ghost use Rattle.sheet.specs.Reading.{change_from, cost_from, may_move, apply_sheet, read_costs, costs_at};
 ghost use Rattle.sheet_read.specs.Applying.{entry_at, in_range, given};
 
-use division::{Numbers, count_numbers};
-use leb128::Number;
 use limits::MOST_NUMBER;
 
-// What stands at a position of a sheet.
+// An entry of a sheet: a link, the code of its change, and the position behind them.
 #[derive(Clone, Copy)]
-pub enum Entry {
-    // A link, the code of its change, and the position behind them.
-    Moved(u32, u32, usize),
-    // No two numbers in shortest form.
-    Refused,
+struct Entry {
+    edge: u32,
+    code: u32,
+    next: usize,
 }
 
-// A cost that a change leads to.
-#[derive(Clone, Copy)]
-pub enum Cost {
-    Inside(u32),
-    // Below 0 or above the largest.
-    Outside,
-}
-
-// The entry at a position.
-fn entry_at(sheet: &[u8], at: usize) -> Entry
+// The entry at a position; none if no two numbers in shortest form stand there.
+fn entry_at(sheet: &[u8], at: usize) -> Option<Entry>
     ensures { result ≡ entry_at sheet.now at }
 {
-    let first = leb128::read_long(sheet, at);
-    let Number::Value(edge, middle) = first else {
-        return Entry::Refused;
-    };
-    let second = leb128::read_long(sheet, middle);
-    let Number::Value(code, next) = second else {
-        return Entry::Refused;
-    };
-    Entry::Moved(edge, code, next)
+    let link = leb128::read_long(sheet, at)?;
+    let code = leb128::read_long(sheet, link.next)?;
+    Some(Entry {
+        edge: link.value,
+        code: code.value,
+        next: code.next,
+    })
 }
 
 // May this link follow, with a change of this code? Links rise and are in the job, and no change is 0.
 fn may_move(edges: usize, least: u32, edge: u32, code: u32) -> bool
     ensures { result ≡ may_move edges least edge code }
 {
-    if edge < least {
-        return false;
-    }
-    if edges <= edge as usize {
-        return false;
-    }
-    code != 0
+    least <= edge && (edge as usize) < edges && code != 0
 }
 
-// The cost that a change of this code leads to: an even one rises, an odd one falls.
-fn moved_cost(old: u32, code: u32) -> Cost
+// The cost that a change of this code leads to, an even one up, an odd one down; none if it is below 0 or above the largest.
+fn moved_cost(old: u32, code: u32) -> Option<u32>
     requires { old ≤ max_number }
     ensures { result ≡ in_range (cost_from (pos old +ℤ change_from code)) }
 {
     let half = code / 2;
     if code % 2 == 0 {
         if MOST_NUMBER - old < half {
-            return Cost::Outside;
+            return None;
         }
-        return Cost::Inside(old + half);
+        return Some(old + half);
     }
-    if old <= half {
-        return Cost::Outside;
-    }
-    Cost::Inside(old - half - 1)
+    old.checked_sub(half + 1)
 }
 
 // Applies the moves of a sheet to the costs of the first `edges` links; false, if it is not in form or leads out of the range, and then the costs
@@ -83,30 +61,25 @@ pub fn apply_moves(sheet: &[u8], edges: usize, costs: &mut [u32; 256]) -> bool
     requires in_range { InRange edges (costs_at costs.old) }
     ensures { given result (costs_at costs.new) ≡ apply_sheet edges (costs_at costs.old) sheet.now }
 {
-    let first = leb128::read_long(sheet, 0);
-    let Number::Value(count, behind) = first else {
+    let Some(count) = leb128::read_long(sheet, 0) else {
         return false;
     };
-    let mut at = behind;
+    let mut at = count.next;
     let mut least: u32 = 0;
-    let mut left = count;
-    while 0 < left {
-        let entry = entry_at(sheet, at);
-        let Entry::Moved(edge, code, next) = entry else {
+    for _ in 0..count.value {
+        let Some(entry) = entry_at(sheet, at) else {
             return false;
         };
-        if !may_move(edges, least, edge, code) {
+        if !may_move(edges, least, entry.edge, entry.code) {
             return false;
         }
-        let place = edge as usize;
-        let cost = moved_cost(costs[place], code);
-        let Cost::Inside(new) = cost else {
+        let place = entry.edge as usize;
+        let Some(cost) = moved_cost(costs[place], entry.code) else {
             return false;
         };
-        costs[place] = new;
-        least = edge + 1;
-        at = next;
-        left -= 1;
+        costs[place] = cost;
+        least = entry.edge + 1;
+        at = entry.next;
     }
     at == sheet.len()
 }
@@ -118,8 +91,7 @@ pub fn read_costs(frame: &[u8], edges: usize, costs: &mut [u32; 256]) -> bool
     requires costs_len { length costs.old ≡ 256 }
     ensures { given result (numbers_at edges costs.new) ≡ read_costs edges frame.now }
 {
-    let numbers = count_numbers(frame);
-    let Numbers::Count(total) = numbers else {
+    let Some(total) = division::count_numbers(frame) else {
         return false;
     };
     if total != edges {
