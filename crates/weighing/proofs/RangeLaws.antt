@@ -24,8 +24,7 @@ tested p (suc n) a =
 
 -- The closure stays what it was, and answers what p does.
 pub all_over_range :
-    {F : Type 0} {g : Mut F (ℕ × Unit {0}) Bool} {u : Range ℕ} {f : F} {r : Bool}
-    (n : ℕ) (p : ℕ → Bool) →
+    {F : Type 0} {g : Mut F (ℕ × Unit {0}) Bool} {u : Range ℕ} {f : F} {r : Bool} {n : ℕ} {p : ℕ → Bool} →
     (xs : List ℕ) × (o : Option ℕ) × (j : F) × YieldsThen nat_range_steps (record { start = 0; end = n }) xs o u
     × FoldsTo (λ h x q. Called g h (x, tt) true q) f xs j
     × MatchOption o (r ≡ true) (λ x. (r ≡ false) × ((h : F) × Called g j (x, tt) false h)) →
@@ -33,7 +32,7 @@ pub all_over_range :
     ((x : ℕ) (b : Bool) (q : F) → Called g f (x, tt) b q → b ≡ p x) →
     r ≡ all_below n p
 unfolding all_below
-all_over_range {u = u} {f = f} {r = r} n p ran stays tells =
+all_over_range {u = u} {f = f} {r = r} {n = n} {p = p} ran stays tells =
     all_from_yields_List p u f r ran (YieldsList-from_range 0 n n refl (omega arith)) (λ x b q k. (stays x b q k, tells x b q k))
     ∙ tested p n 0
     ∙ ap (λ m. all_below m p) (zero-add n)

@@ -1,8 +1,7 @@
 -- Every pair before pair i passes the test of two.
 use Rattle.std.proofs.Common.{rules, tests}
-use Rattle.weighing.specs.Weighing.{pair_later}
 use Rattle.weighing.proofs.RangeLaws.{all_over_range}
 use Rattle.weighing.proofs.pair_rises.Goals as goal
 
 pub returns : goal.returns
-returns c = all_over_range c.args.i (pair_later c.args.pairs.now c.args.i) c.all.ensures.ran (λ x b q k. search rules) (λ x b q k. search (rules, tests))
+returns c = all_over_range c.all.ensures.ran (λ x b q k. search rules) (λ x b q k. search (rules, tests))
