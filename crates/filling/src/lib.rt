@@ -14,14 +14,11 @@ pub fn copy_links(links: [Link; 256], count: usize, room: &mut [u32])
     requires count_in_bounds { 4 * count ≤ length room.old }
     ensures { room.new ≡ sets room.old 0 (link_numbers (take count links)) }
 {
-    let mut e: usize = 0;
-    while e < count {
-        let l = links[e];
+    for (e, l) in links[..count].iter().enumerate() {
         room[4 * e] = l.end1;
         room[4 * e + 1] = l.end2;
         room[4 * e + 2] = l.cost;
         room[4 * e + 3] = l.mark;
-        e += 1;
     }
 }
 
@@ -31,9 +28,7 @@ pub fn copy_numbers(values: &[u32], count: usize, room: &mut [u32])
     requires count_in_bounds_2 { count ≤ length room.old }
     ensures { room.new ≡ sets room.old 0 (numbers_at count values.now) }
 {
-    let mut i: usize = 0;
-    while i < count {
-        room[i] = values[i];
-        i += 1;
+    for (i, value) in values[..count].iter().enumerate() {
+        room[i] = *value;
     }
 }

@@ -25,30 +25,27 @@ fn ends_apart(nodes: u32, a: u32, b: u32) -> bool
 
 // Question 4 over arrays: every link's ends are below the station count and different. No exit inside the loop: the compiler
 // makes vector code of it.
+#[tactic(auto, using(loops::specs::TestLaws::all_next), unfolding(loops::specs::Below::all_below))]
 fn ends_hold(nodes: u32, edges: usize, end1: &[u32; 256], end2: &[u32; 256]) -> bool
     requires { edges ≤ 256 }
     ensures { result ≡ ends_hold nodes edges end1.now end2.now }
 {
     let mut holds = true;
-    let mut e: usize = 0;
-    while e < edges {
-        let apart = ends_apart(nodes, end1[e], end2[e]);
-        holds = holds & apart;
-        e += 1;
+    for e in 0..edges {
+        holds = holds & ends_apart(nodes, end1[e], end2[e]);
     }
     holds
 }
 
 // Question 5 over arrays: every mark is 0, 1 or 2. No exit inside the loop, either.
+#[tactic(auto, using(loops::specs::TestLaws::all_next), unfolding(loops::specs::Below::all_below))]
 fn marks_hold(edges: usize, mark: &[u32; 256]) -> bool
     requires { edges ≤ 256 }
     ensures { result ≡ marks_hold edges mark.now }
 {
     let mut holds = true;
-    let mut e: usize = 0;
-    while e < edges {
-        holds = holds & (mark[e] <= UNPLUGGED_MARK);
-        e += 1;
+    for m in &mark[..edges] {
+        holds = holds & (*m <= UNPLUGGED_MARK);
     }
     holds
 }
@@ -86,23 +83,12 @@ fn links_small(
     requires { edges ≤ 256 }
     ensures { result ≡ links_small edges (columns end1.now end2.now cost.now mark.now) }
 {
-    let mut e: usize = 0;
-    while e < edges {
-        if MOST_NUMBER < end1[e] {
-            return false;
-        }
-        if MOST_NUMBER < end2[e] {
-            return false;
-        }
-        if MOST_NUMBER < cost[e] {
-            return false;
-        }
-        if MOST_NUMBER < mark[e] {
-            return false;
-        }
-        e += 1;
-    }
-    true
+    (0..edges).all(|e| {
+        end1[e] <= MOST_NUMBER
+            && end2[e] <= MOST_NUMBER
+            && cost[e] <= MOST_NUMBER
+            && mark[e] <= MOST_NUMBER
+    })
 }
 
 // How many of so many links the arrays hold.

@@ -128,8 +128,7 @@ pub fn build(
         live: 0,
         weight: 0,
     };
-    let mut t = 0;
-    while t < trees {
+    for t in 0..trees {
         at = augment(
             TreeRank(t),
             at,
@@ -144,7 +143,6 @@ pub fn build(
             spare,
             slot,
         );
-        t += 1;
     }
     at
 }

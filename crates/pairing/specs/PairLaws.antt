@@ -1,10 +1,13 @@
 -- Laws of the tests of pairs, in the shape of the code: the search for a rank, one pair, all of them. Assumes nothing.
-use Rattle.std.specs.Prelude.{ℕ, ◌+◌, ◌≤◌, ◌<◌, ◌≡◌, Bool, true, false, ◌&&◌, List, ltb, eqb, length, get_or, take}
+use Rattle.std.specs.Prelude.{ℕ, ◌+◌, ◌≤◌, ◌<◌, ◌≡◌, Bool, true, false, cond, ◌&&◌, List, ltb, eqb, length, get_or, take, Some, None, position}
+use Rattle.std.specs.Option.{unwrap_or}
+use Rattle.std.specs.List.{position_or_len}
+use Rattle.std.proofs.lemmas.List.Sums.{position_or_len_is}
 use Rattle.std.proofs.Math.Decide.{ℕ_discrete}
 use Rattle.std.proofs.Common.{arith, ap, ◌∙◌, length-take-le, get_or-take}
 use Rattle.std.proofs.Math.Path.{sym}
 use borrow.Author.Tests.{lt-ltb, le-ltb, eq-eqb, ne_eqb, ltb-true}
-use Rattle.loops.specs.FirstLaws.{first_found}
+use Rattle.loops.specs.FirstLaws.{first_is, first_found}
 use Rattle.loops.specs.TestLaws.{and_first, and_second, all_at}
 use Rattle.paths.specs.Arrays.{array_tree, array_spare, across}
 use Rattle.frame.specs.Arrays.{Arrays}
@@ -42,6 +45,17 @@ module _ (ts : List ℕ) (p e : ℕ) (room : p ≤ length ts) where
   rank_none k l b miss =
       let all : k ≡ p = omega arith in
       rank_first p (omega arith) (rw all at miss) (λ h. absurd (omega arith))
+
+-- The first place of an edge, or the number of ranks if it has none, is its rank.
+pub rank_place : (ts : List ℕ) (p e : ℕ) → length ts ≡ p → unwrap_or (position (λ x. eqb x e) ts) p ≡ rank_of ts e
+rank_place ts p e size =
+    let f = first_is (length ts) (λ k. eqb (get_or ts k 0) e) in
+    let place : position_or_len (λ x. eqb x e) ts ≡ rank_of ts e
+    = position_or_len_is (λ x. eqb x e) ts (rank_of ts e) 0 f.within f.before f.hit in
+    rw place (or_end (rank_of ts e) (length ts) f.within size)
+  where
+    or_end : (k n : ℕ) → k ≤ n → n ≡ p → unwrap_or (cond (ltb k n) (Some k) None) p ≡ k
+    or_end k n l s = grind arith
 
 -- ---- one pair
 

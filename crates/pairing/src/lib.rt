@@ -17,18 +17,12 @@ fn rank_of(ts: &[u32; 256], trees: usize, t: Edge) -> TreeRank
     ensures result_value { result.0 ≡ rank_of (take trees ts.now) t.0 }
     ensures small { result.0 ≤ 63 }
 {
-    let e = t.0;
-    let mut k: usize = 0;
-    while k < trees {
-        if ts[k] == e {
-            return TreeRank(k as u32);
-        }
-        k += 1;
-    }
-    TreeRank(trees as u32)
+    let found = ts[..trees].iter().position(|e| *e == t.0);
+    TreeRank(found.unwrap_or(trees) as u32)
 }
 
 // One pair: a tree edge, a dearer one than the spare that covers it.
+#[tactic(auto, unfolding(crate::specs::Pairs::pair_held))]
 fn pair_holds(
     t: Edge,
     s: Edge,
@@ -86,13 +80,10 @@ pub fn pairs_hold(
     ensures { result ≡ pairs_held edges trees (arrays end1.now end2.now cost.now mark.now
         ts.now mask.now) count pairs.now }
 {
-    let mut i: usize = 0;
-    while i < count {
-        let t = pairs[2 * i];
-        let s = pairs[2 * i + 1];
-        if !pair_holds(
-            Edge(t),
-            Edge(s),
+    (0..count).all(|i| {
+        pair_holds(
+            Edge(pairs[2 * i]),
+            Edge(pairs[2 * i + 1]),
             edges,
             ts,
             trees,
@@ -101,10 +92,6 @@ pub fn pairs_hold(
             cost,
             mark,
             mask,
-        ) {
-            return false;
-        }
-        i += 1;
-    }
-    true
+        )
+    })
 }

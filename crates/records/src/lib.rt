@@ -17,6 +17,7 @@ pub struct Link {
 
 // Every number of the link is at most 2,097,151. The digits of all four are tested at once: 2,097,151 has every digit below its
 // highest.
+#[tactic(auto, using(crate::proofs::RecordsLaws::small_at_once))]
 fn small(l: Link) -> bool
     ensures { result ≡ small_link l }
 {
@@ -66,14 +67,11 @@ pub fn copy_list(list: &[Link]) -> ListCopy
             mark: 0,
         }; 256],
     };
-    let mut i = 0;
-    while i < n {
-        let link = list[i];
-        small = still_small(small, link);
+    for (i, link) in list[..n].iter().enumerate() {
+        small = still_small(small, *link);
         if i < MOST_COUNT {
-            copy.links[i] = link;
+            copy.links[i] = *link;
         }
-        i = i + 1;
     }
     copy.small = small;
     copy
@@ -95,13 +93,11 @@ pub fn spread(
     ensures mark { mark.new ≡ column_put (λ l. l.mark) (min count 256) links mark.old }
 {
     let n = at_most(count, MOST_COUNT);
-    let mut i: usize = 0;
-    while i < n {
+    for i in 0..n {
         let l = links[i];
         end1[i] = l.end1;
         end2[i] = l.end2;
         cost[i] = l.cost;
         mark[i] = l.mark;
-        i += 1;
     }
 }

@@ -19,15 +19,14 @@ fn gap(x: u32, y: u32) -> u32
 }
 
 // The sum, over all edges, of the absolute difference between new and old cost.
+#[tactic(auto, using(loops::specs::SumLaws::sum_more), unfolding(loops::specs::Below::sum))]
 pub fn steps(edges: usize, cost: &[u32; 256], costs: &[u32; 256]) -> u64
     requires { edges ≤ 256 }
     ensures { result ≡ sum edges (λ e. gap (get_or costs.now e 0) (get_or cost.now e 0)) }
 {
     let mut steps: u64 = 0;
-    let mut e: usize = 0;
-    while e < edges {
+    for e in 0..edges {
         steps += gap(costs[e], cost[e]) as u64;
-        e += 1;
     }
     steps
 }
@@ -39,17 +38,7 @@ fn pair_rises(i: usize, pairs: &[u32; 128]) -> bool
 {
     let t = pairs[2 * i];
     let s = pairs[2 * i + 1];
-    let mut k: usize = 0;
-    while k < i {
-        if t <= pairs[2 * k] {
-            return false;
-        }
-        if pairs[2 * k + 1] == s {
-            return false;
-        }
-        k += 1;
-    }
-    true
+    (0..i).all(|k| pairs[2 * k] < t && pairs[2 * k + 1] != s)
 }
 
 // So for every pair.
@@ -57,14 +46,7 @@ pub fn pairs_rise(count: usize, pairs: &[u32; 128]) -> bool
     requires { count ≤ 64 }
     ensures { result ≡ all_below count (pair_rises pairs.now) }
 {
-    let mut i: usize = 0;
-    while i < count {
-        if !pair_rises(i, pairs) {
-            return false;
-        }
-        i += 1;
-    }
-    true
+    (0..count).all(|i| pair_rises(i, pairs))
 }
 
 // Old tree cost less old spare cost.
@@ -76,17 +58,16 @@ fn pair_fall(t: Edge, s: Edge, cost: &[u32; 256]) -> u32
 }
 
 // The sum of it over all pairs.
+#[tactic(auto, using(loops::specs::SumLaws::sum_more), unfolding(loops::specs::Below::sum))]
 pub fn pairs_weight(count: usize, pairs: &[u32; 128], cost: &[u32; 256]) -> u64
     requires { Falling count pairs.now cost.now }
     ensures { result ≡ sum count (fall pairs.now cost.now) }
 {
     let mut total: u64 = 0;
-    let mut i: usize = 0;
-    while i < count {
+    for i in 0..count {
         let t = pairs[2 * i];
         let s = pairs[2 * i + 1];
         total += pair_fall(Edge(t), Edge(s), cost) as u64;
-        i += 1;
     }
     total
 }

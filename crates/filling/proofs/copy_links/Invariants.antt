@@ -1,7 +1,5 @@
--- `filling::copy_links` meets its contract. The loop's invariant: the numbers of the links passed stand in the array.
--- Assumes nothing.
-use Prim.Native.Nat.{◌-◌}
-use lib.ListN.{take}
+-- The numbers of the links passed stand in the array.
+use Rattle.std.proofs.Common.{take}
 use Rattle.frame.specs.Job.{fields}
 use Rattle.accept.specs.ListJobs.{job_link}
 use Rattle.records.specs.Records.{zero_link}
@@ -9,7 +7,4 @@ use Rattle.filling.specs.FillLaws.{Copying}
 use Rattle.filling.proofs.copy_links.Given as goal
 
 abbrev pub invariant-loop-e : goal.invariant-loop-e
-invariant-loop-e st = Copying zero_link (λ l. fields (job_link l)) 4 (take st.count st.links) st.initial.room st.room st.e
-
-abbrev pub decreases-loop-e : goal.decreases-loop-e
-decreases-loop-e l = l.count - l.e
+invariant-loop-e st = Copying zero_link (λ l. fields (job_link l)) 4 (take st.count st.fn.links) st.initial.room st.room st.e

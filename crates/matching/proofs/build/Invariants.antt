@@ -1,5 +1,4 @@
--- `matching::build` meets its contract. The invariant: the tables hold what the model has after as many tree ranks. Assumes nothing.
-use Prim.Native.Nat.{◌-◌}
+-- The tables hold what the model has after as many tree ranks.
 use Rattle.matching.specs.Tables.{tables}
 use Rattle.matching.specs.BuildSteps.{Building}
 use Rattle.matching.proofs.build.Given as goal
@@ -8,6 +7,3 @@ abbrev pub invariant-loop-t : goal.invariant-loop-t
 invariant-loop-t l =
     Building l.t l.trees l.spares l.cost l.ts l.ss l.initial.cols l.at.slots l.at.low l.at.live l.at.weight
     (tables l.cols l.words l.links l.spare l.slot)
-
-abbrev pub decreases-loop-t : goal.decreases-loop-t
-decreases-loop-t l = l.trees - l.t

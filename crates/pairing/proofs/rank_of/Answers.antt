@@ -1,27 +1,17 @@
--- `pairing::rank_of` meets its contract. The loop's invariant: the edge is at none of the ranks passed. Assumes nothing.
-use Prim.Native.Nat.{◌-◌}
-use native.Mathlib.Omega.{arith}
-use Rattle.pairing.specs.PairLaws.{missed_more, rank_found, rank_none}
+-- The place that `position` finds is the rank.
+use Rattle.std.proofs.Common.{◌∙◌, ap, take, length-take-le, eqb, rules, tests, ℕ, Option}
+use Rattle.std.specs.Option.{unwrap_or}
+use Rattle.std.proofs.lemmas.Iterator.{YieldsList-from_slice}
+use Rattle.std.proofs.lemmas.Iterator.Search.{position_from_yields_List}
+use Rattle.pairing.specs.PairLaws.{rank_place}
 use Rattle.pairing.proofs.rank_of.Goals as goal
 
-pub loop-k-init : goal.loop-k-init
-loop-k-init c =
-    (omega arith, λ i l. absurd (omega arith))
-
-pub returns-then-ts-k : goal.returns-then-ts-k
-returns-then-ts-k c =
-    record {
-      result_value = rank_found _ _ _ c.requires.places c.loop-k.k c.loop-k-test.true c.loop-k.invariant.1 c.if-ts-k.true;
-      small = omega arith;
-    }
-
-pub loop-k-preserved : goal.loop-k-preserved
-loop-k-preserved c =
-    (omega arith, missed_more c.args.ts.now c.args.t.0 c.loop-k.k c.loop-k.invariant.1 c.if-ts-k.false)
-
-pub returns : goal.returns
-returns c =
-    record {
-      result_value = rank_none _ _ _ c.requires.places c.loop-k.k c.loop-k-test.false c.loop-k.invariant.0 c.loop-k.invariant.1;
-      small = c.requires.trees_bound;
-    }
+pub returns-clause-result_value : goal.returns-clause-result_value
+returns-clause-result_value c =
+    let a = c.args in
+    let run = c.position-found in
+    let found =
+    position_from_yields_List (λ x. eqb x a.t.0) _ _ run.result run.ensures.ran
+    (YieldsList-from_slice (take a.trees a.ts.now) cc) (λ x b q k. search (rules, tests))
+    in
+    c.unwrap_or.ensures ∙ ap (λ (r : Option ℕ). unwrap_or r a.trees) found ∙ rank_place _ _ _ (length-take-le a.trees a.ts.now c.requires.places)

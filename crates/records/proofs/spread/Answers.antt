@@ -1,12 +1,10 @@
-use Rattle.std.proofs.Common.{arith, ◌∙◌, ap, ◌≡◌, List, ℕ}
-use Rattle.records.specs.declared.Link.{Link}
-use Rattle.records.specs.Records.{column_put}
+-- None is put at first, and one more each turn.
+use Rattle.std.proofs.Common.{arith}
 use Rattle.records.proofs.RecordsLaws.{filled_none, filled_more}
 use Rattle.records.proofs.spread.Goals as goal
 
 pub loop-i-init : goal.loop-i-init
 loop-i-init c = let a = c.args in record {
-  passed = omega arith;
   few = omega arith;
   ends1 = filled_none (λ r. r.end1) a.links a.end1.now;
   ends2 = filled_none (λ r. r.end2) a.links a.end2.now;
@@ -16,25 +14,9 @@ loop-i-init c = let a = c.args in record {
 
 pub loop-i-preserved : goal.loop-i-preserved
 loop-i-preserved c = let a = c.args in let l = c.loop-i in let v = l.invariant in record {
-  passed = omega arith;
-  few = omega arith;
+  few = v.few;
   ends1 = filled_more (λ r. r.end1) 256 l.i a.links a.end1.now l.end1 (omega arith) c.requires.0 v.ends1 (omega arith);
   ends2 = filled_more (λ r. r.end2) 256 l.i a.links a.end2.now l.end2 (omega arith) c.requires.1 v.ends2 (omega arith);
   costs = filled_more (λ r. r.cost) 256 l.i a.links a.cost.now l.cost (omega arith) c.requires.2 v.costs (omega arith);
   marks = filled_more (λ r. r.mark) 256 l.i a.links a.mark.now l.mark (omega arith) c.requires.3 v.marks (omega arith);
 }
-
-stop : (f : Link → ℕ) {i n : ℕ} (ys : List Link) (old now : List ℕ) → i ≡ n → now ≡ column_put f i ys old → now ≡ column_put f n ys old
-stop f ys old now e so = so ∙ ap (λ (j : ℕ). column_put f j ys old) e
-
-pub returns-clause-end1 : goal.returns-clause-end1
-returns-clause-end1 c = stop (λ r. r.end1) _ _ _ (omega arith) c.loop-i.invariant.ends1
-
-pub returns-clause-end2 : goal.returns-clause-end2
-returns-clause-end2 c = stop (λ r. r.end2) _ _ _ (omega arith) c.loop-i.invariant.ends2
-
-pub returns-clause-cost : goal.returns-clause-cost
-returns-clause-cost c = stop (λ r. r.cost) _ _ _ (omega arith) c.loop-i.invariant.costs
-
-pub returns-clause-mark : goal.returns-clause-mark
-returns-clause-mark c = stop (λ r. r.mark) _ _ _ (omega arith) c.loop-i.invariant.marks
