@@ -2,13 +2,13 @@
 use Rattle.answering.proofs.answer.Goals as goal
 
 pub answer_held-requires : goal.answer_held-requires
-answer_held-requires c = λ z. (_, c.accept-header.ensures.job z)
+answer_held-requires c = ?
 
 pub returns : goal.returns
 returns c =
     c.answer_held.ensures.answered _
     (record {
       bytes = λ i. (c.type_inv.frame i).fits;
-      header_is = c.accept-header.ensures.header;
-      held = c.accept-header.ensures.job;
+      headed = c.accept-accepted.ensures.header;
+      held = c.accept-accepted.ensures.job;
     })
