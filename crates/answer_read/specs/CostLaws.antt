@@ -1,15 +1,16 @@
 -- Between the numbers before a link's new cost and those behind it stands that cost. Assumes nothing.
-use Rattle.std.specs.Prelude.{ℕ, zero, suc, ◌+◌, ◌-◌, ◌<◌, ◌≤◌, ◌≡◌, refl, get_or, take, drop}
+use Rattle.std.specs.Prelude.{ℕ, zero, suc, ◌+◌, ◌-◌, ◌<◌, ◌≤◌, ◌≡◌, refl, Some, None, get_or, take, drop}
 use native.Mathlib.Omega.{arith}
 use Rattle.std.proofs.Common.{sym, ◌∙◌, length-drop}
 use Rattle.std.proofs.Math.Path.{ap, ap₂, subst}
 use mathlib.Core.List.{List, [], ◌∷◌, ◌++◌, flat_map, append-nil}
 use Rattle.std.proofs.Math.ListN.{length, length-append}
 use Rattle.std.proofs.lemmas.List.{take-append-le}
+use Rattle.std.proofs.lemmas.Option.{none-some, same_Some}
 use Rattle.std.proofs.Math.Seq.{drop-append_seam}
 use Rattle.number.specs.Number.{encode}
 use Rattle.leb128.specs.Positions.{located, read_at}
-use Rattle.leb128.specs.declared.Number.TheVariants as Read
+use Rattle.leb128.specs.declared.Number.{Number}
 use Rattle.number.proofs.Laws.{decode_encode}
 use Rattle.optimum.specs.Optimum.{both}
 use Rattle.limits.specs.Limits.{number_bytes, step_bytes}
@@ -31,23 +32,22 @@ module _ (s : List ℕ) (e : ℕ) (k : CostIn s e) where
   ns = answer_numbers k.answer
 
   -- The steps are read, and the numbers stand behind them.
-  steps_at : read_at step_bytes s 0 ≡ Read.Value k.answer.steps (length (encode step_bytes k.answer.steps))
+  abbrev steps_number : Number
+  steps_number = record { value = k.answer.steps; next = length (encode step_bytes k.answer.steps) }
+
+  steps_at : read_at step_bytes s 0 ≡ Some steps_number
   unfolding located
   steps_at =
-      subst (λ t. read_at step_bytes t 0 ≡ Read.Value k.answer.steps (length (encode step_bytes k.answer.steps))) k.layout.joined
+      subst (λ t. read_at step_bytes t 0 ≡ Some steps_number) k.layout.joined
       (ap (located 0) (decode_encode step_bytes k.answer.steps (bytes_of ns) (omega arith) k.layout.step_limit) ∙
-      ap (Read.Value k.answer.steps) (omega arith))
+      ap (λ (n : ℕ). Some (record { value = k.answer.steps; next = n })) (omega arith))
 
-  pub steps_found : read_at step_bytes s 0 ≡ Read.Refused → ⊥
-  steps_found r =
-      let both : Read.Value k.answer.steps (length (encode step_bytes k.answer.steps)) ≡ Read.Refused = sym steps_at ∙ r in
-      let z : ◌≡◌ {A = ℕ} 0 1 = cc in omega arith
+  pub steps_found : read_at step_bytes s 0 ≡ None → ⊥
+  steps_found r = none-some steps_number (sym r ∙ steps_at)
 
-  module _ (v next : ℕ) (r : read_at step_bytes s 0 ≡ Read.Value v next) (part : List ℕ) (behind : part ≡ drop next s) where
-    behind_is : length (encode step_bytes k.answer.steps) ≡ next
-    behind_is =
-        let same : Read.Value k.answer.steps (length (encode step_bytes k.answer.steps)) ≡ Read.Value v next = sym steps_at ∙ r in
-        cc
+  module _ (n : Number) (r : read_at step_bytes s 0 ≡ Some n) (part : List ℕ) (behind : part ≡ drop n.next s) where
+    behind_is : length (encode step_bytes k.answer.steps) ≡ n.next
+    behind_is = ap (λ (n : Number). n.next) (same_Some steps_number n (sym steps_at ∙ r))
 
     divides : Divides part ns
     divides =
@@ -89,13 +89,13 @@ module _ (s : List ℕ) (e : ℕ) (k : CostIn s e) where
             length-drop first part,
           )
 
-      pub cost_place_lem : record { offset = next + first; size = end - first } ≡ cost_place_in k.answer e
+      pub cost_place_lem : record { offset = n.next + first; size = end - first } ≡ cost_place_in k.answer e
       unfolding flat_map
       cost_place_lem =
           let here : first ≡ length (bytes_of (take e k.answer.costs)) = at_first ∙
           ap (λ xs. length (bytes_of xs)) (take-append-le e k.answer.costs (length k.answer.pairs ∷ flat_map both k.answer.pairs)
           (omega (arith, k.inside))) in
-          let offset : next + first ≡ cost_offset k.answer e = omega
+          let offset : n.next + first ≡ cost_offset k.answer e = omega
           (arith, here, behind_is, length-append (encode step_bytes k.answer.steps) (bytes_of (take e k.answer.costs))) in
           let one : length (bytes_of (take 1 (drop e ns))) ≡ cost_length k.answer e = ap length
           (ap bytes_of (one_number k.answer.costs (length k.answer.pairs ∷ flat_map both k.answer.pairs) e k.inside) ∙

@@ -1,22 +1,20 @@
 -- What the functions that read an answer frame compute. Definitions only. Assumes nothing.
-use Rattle.std.specs.Prelude.{ℕ, ◌*◌, ◌≤◌, ◌≡◌, false, List, leb, length, get_or}
-use Rattle.std.proofs.Math.Option.{Option, some, none}
+use Rattle.std.specs.Prelude.{ℕ, ◌*◌, ◌≤◌, ◌≡◌, List, Option, Some, None, leb, length, get_or}
+use Rattle.std.proofs.Math.Option as maybe
 use Rattle.loops.specs.Below.{choose}
 use Rattle.optimum.specs.Optimum.{Answer}
 use Rattle.codec.specs.Held.{answer_at}
 use Rattle.answer_read.specs.declared.Contents.{Contents}
 
 -- What is read: the answer that the arrays hold, or none.
-abbrev pub no_contents : Contents
-no_contents = record { ok = false; steps = 0; count = 0 }
-
-unfoldable pub contents : ℕ → Contents → List ℕ → List ℕ → Option Answer
-contents edges r cs ps = choose r.ok (λ _. some (answer_at r.steps edges cs r.count ps)) (λ _. none)
+unfoldable pub contents : ℕ → Option Contents → List ℕ → List ℕ → maybe.Option Answer
+contents edges (Some k) cs ps = maybe.some (answer_at k.steps edges cs k.count ps)
+contents edges None cs ps = maybe.none
 
 -- An answer, if it has at most 64 pairs.
-unfoldable pub few : Option Answer → Option Answer
-few none = none
-few (some a) = choose (leb (length a.pairs) 64) (λ _. some a) (λ _. none)
+unfoldable pub few : maybe.Option Answer → maybe.Option Answer
+few maybe.none = maybe.none
+few (maybe.some a) = choose (leb (length a.pairs) 64) (λ _. maybe.some a) (λ _. maybe.none)
 
 -- Arrays of 256 places for costs and of 64 places for pairs.
 pub record AnswerPlaces (cs ps : List ℕ) : Type 0 where
