@@ -1,7 +1,8 @@
 -- `watch::until_cheapest` meets its contract. Assumes nothing.
 use native.Mathlib.Omega.{arith}
 use Rattle.replay.proofs.Hearing.{heard_none}
-use Rattle.packets.specs.PacketLaws.{packet_refused, packet_inside, packet_within, packet_rest, step_in}
+use Rattle.packets.specs.Packets.{step_in}
+use Rattle.packets.specs.PacketLaws.{packet_refused, packet_inside, packet_within, packet_rest}
 use Rattle.violations.specs.Counting.{violations_by}
 use Rattle.watch.specs.WatchLaws.{watched_none, priced_more, watched_more}
 use Rattle.watch.proofs.until_cheapest.Goals as goal
