@@ -1,5 +1,5 @@
 -- A verdict by the definition means what it should. Assumes nothing.
-use Rattle.std.specs.Prelude.{◌≡◌, refl, ◌↔◌, Bool, true, false, List, Result, Ok, Err, IfErr}
+use Rattle.std.specs.Prelude.{ℕ, ◌≡◌, refl, ◌↔◌, Bool, true, false, List, Result, Ok, Err, IfErr}
 use Rattle.std.proofs.Common.{sym, ap, ◌∙◌, ⊎_elim}
 use Rattle.loops.specs.TestLaws.{truth, clash}
 use Rattle.limits.specs.declared.Refusal.{Refusal}
