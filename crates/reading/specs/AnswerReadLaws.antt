@@ -1,19 +1,19 @@
 -- An answer read into arrays of zeros stands there whole, and is the answer that the frame holds. Assumes nothing.
-use Rattle.std.specs.Prelude.{ℕ, zero, suc, ◌+◌, ◌*◌, ◌<◌, ◌≤◌, ◌≡◌, refl, true, length, get_or}
+use Rattle.std.specs.Prelude.{ℕ, zero, suc, ◌+◌, ◌*◌, ◌<◌, ◌≤◌, ◌≡◌, refl, true, false, Some, None, Ok, Err, length, get_or}
 use Rattle.std.proofs.Math.Decide.{dec_lt}
-use Rattle.std.proofs.Common.{arith, sym, ap, subst, ◌∙◌, ⊎_elim, ext_get_or}
+use Rattle.std.proofs.Common.{arith, sym, ap, subst, ◌∙◌, ext_get_or}
 use mathlib.Core.List.{List, [], ◌∷◌, flat_map}
-use Rattle.std.proofs.Math.Option.{Option, some, none}
+use Rattle.std.proofs.Math.Option.{some}
+use Rattle.std.proofs.Math.Option as maybe
 use Rattle.std.proofs.Math.ListN.{get_or-eq_default}
 use Rattle.loops.specs.Loop.{tabulate}
-use Rattle.loops.specs.TestLaws.{truth}
 use Rattle.loops.specs.GatherLaws.{length_tabulate, get_d_tabulate}
 use Rattle.optimum.specs.Optimum.{Pair, both, Answer}
 use Rattle.optimum.specs.PairLaws.{rising_count}
 use Rattle.number.specs.Number.{Bytes}
 use Rattle.frame.specs.Job.{Job, tree_of}
-use Rattle.frame.specs.Questions.{job_of, refusal}
-use Rattle.frame.specs.Answers.{no_pair, pair_from, read_answer, judge_answer}
+use Rattle.frame.specs.Questions.{job_of}
+use Rattle.frame.specs.Answers.{no_pair, pair_from, read_answer}
 use Rattle.frame.specs.Meaning.{Accepted}
 use Rattle.frame.proofs.Accepted.{accepted}
 use Rattle.frame.specs.AnswerMeaning.{Certified}
@@ -25,11 +25,9 @@ use Rattle.codec.specs.HeldLaws.{pair_numbers_lem}
 use Rattle.answer_read.specs.declared.Contents.{Contents}
 use Rattle.answer_read.specs.Reading.{contents, few, Behind}
 use Rattle.answer_read.specs.AnswerLaws.{found_answer, missed_answer}
-use Rattle.judging.specs.declared.Verdict.{Verdict}
-use Rattle.judging.specs.declared.Verdict.TheVariants.{Yes, No, Refused}
-use Rattle.judging.specs.Verdicts.{verdict, AnswerJudged}
-use Rattle.judging.proofs.VerdictLaws.{answer_judged_of}
-use Rattle.reading.specs.AnswersRead.{unread, answer_read, read_of, answer_of_read, AnswerGiven}
+use Rattle.limits.specs.declared.Refusal.{Refusal}
+use Rattle.judging.specs.Verdicts.{AnswerJudged}
+use Rattle.reading.specs.AnswersRead.{answer_read, answer_of_read, AnswerGiven}
 use Rattle.reading.specs.declared.AnswerRead.{AnswerRead}
 
 -- An array that agrees with f at the first m places and says 0 behind them.
@@ -53,10 +51,9 @@ padded n m xs size past =
 -- The arrays are those of the answer that stands in them.
 arrays_read :
     (m : ℕ) (r : Contents) (cs ps : List ℕ) → Behind m r.count (zeros 256) cs (zeros 128) ps →
-    record { verdict = Yes; steps = r.steps; costs = cs; count = r.count; pairs = ps } ≡ answer_read (answer_at r.steps m cs r.count ps)
+    record { steps = r.steps; costs = cs; count = r.count; pairs = ps } ≡ answer_read (answer_at r.steps m cs r.count ps)
 arrays_read m r cs ps k i =
     record {
-      verdict = Yes;
       steps = r.steps;
       costs = padded 256 m cs k.places.costs k.costs i;
       count = sym (length_tabulate (pair_from ps) r.count) i;
@@ -64,17 +61,18 @@ arrays_read m r cs ps k i =
     }
 
 -- A frame that holds an answer of at most 64 pairs is read.
-module _ (m : ℕ) (r : Contents) (cs ps : List ℕ) (o : Option Answer) (e : contents m r cs ps ≡ few o) (a : Answer) (is : o ≡ some a)
-    (most : length a.pairs ≤ 64) where
-  found : r.ok ≡ true
-  found = ⊎_elim (λ y. y) (λ n. absurd (omega (arith, most, missed_answer m r cs ps o e n a is))) (truth r.ok)
+module _ (m : ℕ) (cs ps : List ℕ) (o : maybe.Option Answer) (a : Answer) (is : o ≡ some a) (most : length a.pairs ≤ 64) where
+  pub contents_missed : contents m None cs ps ≡ few o → ⊥
+  contents_missed e = omega (arith, most, missed_answer m cs ps o e a is)
 
   pub contents_read :
-      (r.ok ≡ true → Behind m r.count (zeros 256) cs (zeros 128) ps) →
-      record { verdict = Yes; steps = r.steps; costs = cs; count = r.count; pairs = ps } ≡ answer_read a
-  contents_read kept =
-      let same : answer_at r.steps m cs r.count ps ≡ a = cc (found_answer m r cs ps o e found, is) in
-      arrays_read m r cs ps (kept found) ∙ ap answer_read same
+      (r : Contents) →
+      contents m (Some r) cs ps ≡ few o →
+      Behind m r.count (zeros 256) cs (zeros 128) ps →
+      record { steps = r.steps; costs = cs; count = r.count; pairs = ps } ≡ answer_read a
+  contents_read r e kept =
+      let same : answer_at r.steps m cs r.count ps ≡ a = cc (found_answer m cs ps r o e, is) in
+      arrays_read m r cs ps kept ∙ ap answer_read same
 
 -- ---- what is read of a frame
 
@@ -125,39 +123,29 @@ pairs_most j k {a = a} c =
       k.node_limit,
     )
 
-read_verdict : (v : Verdict) (o : Option Answer) → (read_of v o).verdict ≡ v
-unfolding read_of
-read_verdict Yes none = refl
-read_verdict Yes (some a) = refl
-read_verdict No o = refl
-read_verdict (Refused n) o = refl
+-- What is read of a frame that is judged yes.
+module _ (s f : List ℕ) (b : Bytes s) (v : AnswerJudged s f (Ok true)) where
+  -- It holds an answer that proves itself best.
+  pub held : (a : Answer) × Certified (job_of s) f a
+  held = (v.yes_means.0 refl).1
 
--- By the verdict: not yes, or yes.
-pub read_none : (v : Verdict) (o : Option Answer) → (v ≡ Yes → ⊥) → unread v ≡ read_of v o
-unfolding read_of
-read_none Yes o n = absurd (n refl)
-read_none No o n = refl
-read_none (Refused k) o n = refl
+  pub held_read : read_answer (length (job_of s).links) f ≡ some held.0
+  held_read = layout_read held.1.layout
 
-pub read_some : (v : Verdict) (o : Option Answer) (a : Answer) → v ≡ Yes → o ≡ some a → answer_read a ≡ read_of v o
-unfolding read_of
-read_some v o a y is = rw (y, is)
+  pub held_few : length held.0.pairs ≤ 64
+  held_few = pairs_most (job_of s) (accepted s b (v.yes_means.0 refl).0) held.1
 
-module _ (s f : List ℕ) (b : Bytes s) (q : Bytes f) (r : AnswerRead)
-    (e : r ≡ read_of (verdict (refusal s) (judge_answer (job_of s) f)) (read_answer (length (job_of s).links) f)) where
-  judged_read : AnswerJudged s f r.verdict
-  judged_read =
-      answer_judged_of s b f q r.verdict (ap (λ (x : AnswerRead). x.verdict) e ∙
-      read_verdict (verdict (refusal s) (judge_answer (job_of s) f)) (read_answer (length (job_of s).links) f))
-
-  certified_read : r.verdict ≡ Yes → Certified (job_of s) f (answer_of_read (length (job_of s).links) r)
-  certified_read y =
+  pub answer_given : (g : AnswerRead) → g ≡ answer_read held.0 → AnswerGiven s f (Ok (Some g))
+  answer_given g is =
       let m = length (job_of s).links in
-      let (z, (a, c)) = judged_read.yes_means.0 y in
-      let k = accepted s b z in
-      let is : r ≡ answer_read a = e ∙ sym (read_some _ _ a (sym judged_read.said ∙ y) (layout_read c.layout)) in
-      let same : answer_of_read m r ≡ a = ap (answer_of_read m) is ∙ answer_back m a c.layout.count k.edge_limit (pairs_most (job_of s) k c) in
-      subst (λ (w : Answer). Certified (job_of s) f w) (sym same) c
+      let k = accepted s b (v.yes_means.0 refl).0 in
+      let same : answer_of_read m g ≡ held.0 = ap (answer_of_read m) is ∙ answer_back m held.0 held.1.layout.count k.edge_limit held_few in
+      let certified : Certified (job_of s) f (answer_of_read m g) = subst (λ (w : Answer). Certified (job_of s) f w) (sym same) held.1 in
+      record { judged = v; said = (held.0, held_read, is); answer = certified; again = certified.layout.joined }
 
-  pub answer_given : AnswerGiven s f r
-  answer_given = record { said = e; judged = judged_read; answer = certified_read; again = λ y. (certified_read y).layout.joined }
+-- Of any other nothing is read.
+pub answer_denied : (s f : List ℕ) → AnswerJudged s f (Ok false) → AnswerGiven s f (Ok None)
+answer_denied s f v = record { judged = v; said = tt; answer = tt; again = tt }
+
+pub answer_withheld : (s f : List ℕ) (q : Refusal) → AnswerJudged s f (Err q) → AnswerGiven s f (Err q)
+answer_withheld s f q v = record { judged = v; said = tt; answer = tt; again = tt }

@@ -1,5 +1,5 @@
 -- The links of four arrays gathered as records; what is read of a job frame is its job. Assumes nothing.
-use Rattle.std.specs.Prelude.{ℕ, zero, suc, ◌+◌, ◌<◌, ◌≤◌, min, ◌≡◌, refl, List, [], ◌∷◌, map, length, get_or, set, take, replicate}
+use Rattle.std.specs.Prelude.{ℕ, zero, suc, ◌+◌, ◌<◌, ◌≤◌, min, ◌≡◌, refl, List, [], ◌∷◌, Ok, Err, map, length, get_or, set, take, replicate}
 use Rattle.std.proofs.Math.Nat.{suc-sub-suc}
 use Rattle.std.proofs.Common.{arith, sym, ap, ◌∙◌, ext_get_or}
 use Rattle.std.proofs.Math.ListN.{get_or-map}
@@ -16,7 +16,9 @@ use Rattle.records.specs.Records.{zero_link, first_links}
 use Rattle.records.proofs.RecordsLaws.{firsts_none, firsts_more, firsts_all, firsts_length, firsts_at}
 use Rattle.held.specs.Held.{Stored}
 use Rattle.accept.specs.ListJobs.{job_link}
-use Rattle.reading.specs.JobsRead.{link_of, gathered, refused_read, given_of, job_in, JobGiven}
+use Rattle.reading.specs.JobsRead.{link_of, gathered, given_of, job_in, JobGiven}
+use Rattle.limits.specs.declared.Refusal.{Refusal}
+use Rattle.limits.specs.Refusals.{number_of}
 use Rattle.reading.specs.declared.JobRead.{JobRead}
 
 -- ---- gathering
@@ -72,30 +74,23 @@ taken_back n [] h = refl
 taken_back zero (l ∷ ls) h = absurd (omega arith)
 taken_back (suc n) (l ∷ ls) h = rw (suc-sub-suc n (length (map link_of ls))) (ap {B = List JobLink} (λ r. l ∷ r) (taken_back n ls (omega arith)))
 
-given_back : (j : Job) → length j.links ≤ 256 → job_in (given_of 0 j) ≡ j
-unfolding given_of
+given_back : (j : Job) → length j.links ≤ 256 → job_in (given_of j) ≡ j
 given_back j h i = record { nodes = j.nodes; links = taken_back 256 j.links h i }
 
 -- ---- what is read of a frame
 
-pub given_refused : (r n : ℕ) (j : Job) → r ≡ n → (n ≡ 0 → ⊥) → refused_read n ≡ given_of r j
-unfolding given_of
-given_refused zero n j e z = absurd (z (sym e))
-given_refused (suc r) n j e z = ap refused_read (sym e)
-
 pub given_job :
-    (r n m : ℕ) (links : List Link) (j : Job) →
-    r ≡ 0 →
+    (n m : ℕ) (links : List Link) (j : Job) →
     n ≡ j.nodes →
     m ≡ length j.links →
     links ≡ first_links 256 (map link_of j.links) →
-    record { refusal = 0; nodes = n; count = m; links = links } ≡ given_of r j
-unfolding given_of
-given_job r n m links j z pn pm pl =
-    (λ i. record { refusal = 0; nodes = pn i; count = pm i; links = pl i }) ∙ ap (λ (k : ℕ). given_of k j) (sym z)
+    record { nodes = n; count = m; links = links } ≡ given_of j
+given_job n m links j pn pm pl i = record { nodes = pn i; count = pm i; links = pl i }
 
-pub job_given : (s : List ℕ) → Bytes s → (r : JobRead) → r ≡ given_of (refusal s) (job_of s) → JobGiven s r
-job_given s b r e =
-    let job : refusal s ≡ 0 → job_in r ≡ job_of s
-    = λ z. ap job_in (e ∙ ap (λ (k : ℕ). given_of k (job_of s)) z) ∙ given_back (job_of s) (accepted s b z).edge_limit in
-    record { said = e; first = first_no s b; job = job; again = λ z. ap job_frame (job z) ∙ write_read6 s b z }
+pub job_given : (s : List ℕ) → Bytes s → (g : JobRead) → refusal s ≡ 0 → g ≡ given_of (job_of s) → JobGiven s (Ok g)
+job_given s b g z e =
+    let job : job_in g ≡ job_of s = ap job_in e ∙ given_back (job_of s) (accepted s b z).edge_limit in
+    record { number = sym z; first = first_no s b; said = e; job = job; again = ap job_frame job ∙ write_read6 s b z }
+
+pub job_withheld : (s : List ℕ) → Bytes s → (q : Refusal) → number_of q ≡ refusal s → JobGiven s (Err q)
+job_withheld s b q e = record { number = e; first = first_no s b; said = tt; job = tt; again = tt }
