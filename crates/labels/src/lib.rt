@@ -16,10 +16,8 @@ fn paired_trees(slots: u32, links: &[u32; 128]) -> u64
     ensures { (t : ℕ) → bit result t ≡ paired_below slots links.now t }
 {
     let mut w = 0u64;
-    let mut k = 0;
-    while k < slots {
-        w = bits::with(w, links[k as usize]);
-        k += 1;
+    for t in &links[..slots as usize] {
+        w = bits::with(w, *t);
     }
     w
 }
@@ -113,17 +111,15 @@ fn label_spares(
     ensures cheaper { 0 < result.spares → cost_at cost.now ss.now (result.spares - 1) < least }
 {
     let mut live = from.live;
-    let mut left = from.spares;
-    while 0 < left {
-        if cost_at(left - 1, cost, ss) < least {
+    for s in (0..from.spares).rev() {
+        if cost_at(s, cost, ss) < least {
             return Origins {
-                spares: left,
+                spares: s + 1,
                 live: live,
             };
         }
-        left -= 1;
         live = label_spare(
-            SpareRank(left),
+            SpareRank(s),
             live,
             cost,
             ss,
@@ -135,7 +131,7 @@ fn label_spares(
         );
     }
     Origins {
-        spares: left,
+        spares: 0,
         live: live,
     }
 }

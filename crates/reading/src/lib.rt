@@ -32,15 +32,13 @@ fn gather(end1: &[u32; 256], end2: &[u32; 256], cost: &[u32; 256], mark: &[u32; 
         cost: 0,
         mark: 0,
     }; 256];
-    let mut e: usize = 0;
-    while e < 256 {
-        links[e] = Link {
+    for (e, link) in links.iter_mut().enumerate() {
+        *link = Link {
             end1: end1[e],
             end2: end2[e],
             cost: cost[e],
             mark: mark[e],
         };
-        e += 1;
     }
     links
 }

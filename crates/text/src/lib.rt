@@ -69,11 +69,8 @@ pub fn put_links(
     ensures { Put out.old at (cost_lines count (λ e. (get_or links e zero_link).cost) (λ e. get_or costs e 0)) result out.new }
 {
     let mut next = at;
-    let mut e: usize = 0;
-    while e < count {
-        let link = links[e];
-        next = put_costs(out, next, e as u32, link.cost, costs[e]);
-        e += 1;
+    for e in 0..count {
+        next = put_costs(out, next, e as u32, links[e].cost, costs[e]);
     }
     next
 }
@@ -85,10 +82,8 @@ pub fn put_pairs(out: &mut [u8], at: usize, count: usize, pairs: [u32; 128]) -> 
     ensures { Put out.old at (pair_lines count (λ i. get_or pairs (2 * i) 0) (λ i. get_or pairs (2 * i + 1) 0)) result out.new }
 {
     let mut next = at;
-    let mut i: usize = 0;
-    while i < count {
+    for i in 0..count {
         next = put_pair(out, next, pairs[2 * i], pairs[2 * i + 1]);
-        i += 1;
     }
     next
 }

@@ -4,7 +4,7 @@ use native.Mathlib.Omega.{arith}
 use Rattle.bits.specs.BitLaws.{fewer}
 use Rattle.labels.specs.Labels.{SparesRead}
 use Rattle.labels.specs.LabelSteps.{room_kept}
-use Rattle.labels.specs.OriginSteps.{labelling_start, labelling_done, next_rank_below, labelling_turn, labelling_end}
+use Rattle.labels.specs.OriginSteps.{labelling_done, next_rank_below, labelling_turn, labelling_end}
 use Rattle.labels.proofs.label.Goals as goal
 
 -- The spare ranks left are among those at the start.
@@ -16,16 +16,6 @@ spares_left r fewer =
       edges = λ k m. r.edges k (omega (arith, fewer));
       slots = λ s m. r.slots s (omega (arith, fewer));
     }
-
-pub loop-free-init : goal.loop-free-init
-loop-free-init c =
-    let a = c.args in
-    let all = c.below in
-    let paired = c.paired_trees in
-    let free = c.less-free in
-    labelling_start a.trees a.spares a.slots a.cost.now a.ts.now a.ss.now a.cols.now a.slot.now a.words.now a.links.now
-    a.label.now c.requires all.result paired.result free.result c.below-2.result all.ensures paired.ensures free.ensures
-    c.below-2.ensures (omega (arith, free.type_inv))
 
 pub returns-then-at-eq0 : goal.returns-then-at-eq0
 returns-then-at-eq0 c =
@@ -54,14 +44,6 @@ overflow_add-x c =
     in
     omega (arith, c.cost_at-x.ensures, c.requires.below_top c.lowest-t.result rank)
 
-pub label_spares-at-requires : goal.label_spares-at-requires
-label_spares-at-requires c =
-    let a = c.args in
-    let l = c.loop-free in record {
-      spares = spares_left c.requires.spares_read l.invariant.fewer;
-      room = room_kept a.words.now a.links.now l.words l.links l.invariant.kept a.label.now l.label c.requires.room l.invariant.size;
-    }
-
 pub label_from-requires : goal.label_from-requires
 label_from-requires c =
     let a = c.args in
@@ -76,10 +58,6 @@ label_from-requires c =
           (room_kept a.words.now a.links.now l.words l.links l.invariant.kept a.label.now l.label c.requires.room l.invariant.size)
           f.ensures.labelled.size,
     )
-
-pub without_lowest-free-requires : goal.without_lowest-free-requires
-without_lowest-free-requires c =
-    omega (arith, c.loop-free-test.true)
 
 pub loop-free-smaller : goal.loop-free-smaller
 loop-free-smaller c =
@@ -101,14 +79,6 @@ loop-free-preserved c =
     x.ensures f.new.words f.new.links f.new.label f.result.spares f.result.live
     f.ensures.labelled f.ensures.cheaper g.new.words g.new.links g.new.label g.result g.ensures
     c.without_lowest-free.result c.without_lowest-free.ensures (omega (arith, c.without_lowest-free.type_inv))
-
-pub label_spares-requires : goal.label_spares-requires
-label_spares-requires c =
-    let a = c.args in
-    let l = c.loop-free in record {
-      spares = spares_left c.requires.spares_read l.invariant.fewer;
-      room = room_kept a.words.now a.links.now l.words l.links l.invariant.kept a.label.now l.label c.requires.room l.invariant.size;
-    }
 
 pub returns : goal.returns
 returns c =

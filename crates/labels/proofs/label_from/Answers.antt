@@ -1,11 +1,6 @@
 -- `labels::label_from` meets its contract. Assumes nothing.
-use Rattle.labels.specs.LabelSteps.{room_ready, labelled_from}
+use Rattle.labels.specs.LabelSteps.{labelled_from}
 use Rattle.labels.proofs.label_from.Goals as goal
-
-pub explore-after-requires : goal.explore-after-requires
-explore-after-requires c =
-    let a = c.args in
-    room_ready a.t.0 a.words.now a.links.now a.label.now c.requires.0 c.requires.1
 
 pub returns : goal.returns
 returns c =

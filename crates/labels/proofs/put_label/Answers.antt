@@ -1,27 +1,8 @@
 -- `labels::put_label` meets its contract. The invariant: the label, put at what is left, gives the whole. Assumes nothing.
 use native.Mathlib.Omega.{arith}
 use Rattle.bits.specs.BitLaws.{fewer}
-use Rattle.labels.specs.FillSteps.{filling_start, filling_below, filling_turn, filling_end}
+use Rattle.labels.specs.FillSteps.{filling_below, filling_turn, filling_end}
 use Rattle.labels.proofs.put_label.Goals as goal
-
-pub loop-left-init : goal.loop-left-init
-loop-left-init c =
-    let a = c.args in
-    filling_start a.set a.x a.label.now c.requires c.ranges.set.fits
-
-pub overflow_cast-label : goal.overflow_cast-label
-overflow_cast-label c =
-    let a = c.args in
-    let l = c.loop-left in
-    let below = filling_below a.set a.x a.label.now l.left l.label l.invariant c.loop-left-test.true c.lowest.result c.lowest.ensures in
-    omega (arith, below)
-
-pub offset_bounds-label-lowest : goal.offset_bounds-label-lowest
-offset_bounds-label-lowest c =
-    let a = c.args in
-    let l = c.loop-left in
-    let below = filling_below a.set a.x a.label.now l.left l.label l.invariant c.loop-left-test.true c.lowest.result c.lowest.ensures in
-    omega (arith, below)
 
 pub bounds-label-lowest : goal.bounds-label-lowest
 bounds-label-lowest c =

@@ -8,19 +8,15 @@ use Rattle.text.proofs.put_pairs.Goals as goal
 
 pub loop-i-init : goal.loop-i-init
 unfolding gather
-loop-i-init c = record { in_range = omega arith; lines = record { next = omega arith; area = refl } }
+loop-i-init c = record { next = omega arith; area = refl }
 
 pub put_pair-next-requires : goal.put_pair-next-requires
 put_pair-next-requires c =
     let line : ℕ → List ℕ = λ i. pair_line (get_or c.args.pairs (2 * i) 0) (get_or c.args.pairs (2 * i + 1) 0) in
-    put_room _ _ _ _ _ _ c.loop-i.invariant.lines (omega (arith, lines_most 47 c.loop-i.i line (λ i. pair_most _ _)))
+    put_room _ _ _ _ _ _ c.loop-i.invariant (omega (arith, lines_most 47 c.loop-i.i line (λ i. pair_most _ _)))
 
 pub loop-i-preserved : goal.loop-i-preserved
 loop-i-preserved c =
     let line : ℕ → List ℕ = λ i. pair_line (get_or c.args.pairs (2 * i) 0) (get_or c.args.pairs (2 * i + 1) 0) in
-    record {
-      in_range = omega arith;
-      lines =
-          rw (lines_next c.loop-i.i line)
-          (put_more _ _ _ _ _ _ _ _ c.loop-i.invariant.lines c.put_pair-next.ensures.next c.put_pair-next.ensures.area);
-    }
+    rw (lines_next c.loop-i.i line)
+    (put_more _ _ _ _ _ _ _ _ c.loop-i.invariant c.put_pair-next.ensures.next c.put_pair-next.ensures.area)
