@@ -7,6 +7,7 @@ use Rattle.std.proofs.lemmas.List.Edits.{sets, sets-eq}
 use Rattle.std.proofs.lemmas.Option.{none-some, same_Some}
 use Rattle.loops.specs.TestLaws.{truth, and_first, and_second}
 use Rattle.limits.specs.declared.Refusal.{Refusal}
+use Rattle.limits.specs.declared.Refusal.TheVariants.{Room}
 use Rattle.limits.specs.Refusals.{number_of}
 use Rattle.limits.specs.ResultLaws.{same_ok, ok-err, refusal_nonzero}
 use Rattle.optimum.specs.Optimum.{Answer}
@@ -93,10 +94,23 @@ module _ (s f room₁ room₂ after₁ after₂ : List ℕ) where
       AnswerGiven s f read →
       copy_of (Ok (Some r)) after₁ after₂ ≡ copied links read room₁ room₂ →
       AnswerDone s f room₁ room₂ r after₁ after₂
-  done_of r (Ok (Some g)) k e = of (truth (fit (answer_of_read links g) room₁ room₂))
-    where
-      of : _ → AnswerDone s f room₁ room₂ r after₁ after₂
-      of = ?
+  done_of r (Ok (Some g)) k e =
+      let a = answer_of_read links g in
+      ⊎_elim
+      (λ (y : fit a room₁ room₂ ≡ true).
+      let whole : copy_of (Ok (Some r)) after₁ after₂ ≡ copy_of (Ok (Some (answer_copy a))) (sets room₁ 0 a.costs) (sets room₂ 0 (pair_numbers a.pairs))
+      = rw y at e in
+      record {
+        answer = a;
+        certified = k.answer;
+        said = same_Some _ _ (same_ok _ _ (ap (λ (c : Copy). c.said) whole));
+        costs = ap (λ (c : Copy). c.costs) whole ∙ front a.costs room₁ (and_first (leb (length a.costs) (length room₁)) _ y);
+        pairs = ap (λ (c : Copy). c.pairs) whole ∙ front (pair_numbers a.pairs) room₂ (and_second (leb (length a.costs) (length room₁)) _ y);
+      })
+      (λ (n : fit a room₁ room₂ ≡ false).
+      let short : copy_of (Ok (Some r)) after₁ after₂ ≡ copy_of (Err Room) room₁ room₂ = rw n at e in
+      absurd (ok-err _ Room (ap (λ (c : Copy). c.said) short)))
+      (truth (fit a room₁ room₂))
   done_of r (Ok None) k e = absurd (none-some r (sym (same_ok _ _ (ap (λ (c : Copy). c.said) e))))
   done_of r (Err q) k e = absurd (ok-err _ q (ap (λ (c : Copy). c.said) e))
 
@@ -109,7 +123,17 @@ module _ (s f room₁ room₂ after₁ after₂ : List ℕ) where
       ((x : AnswerCopy) → r ≡ Ok (Some x) → ⊥) →
       copy_of r after₁ after₂ ≡ copied links read room₁ room₂ →
       (after₁ ≡ room₁) × (after₂ ≡ room₂)
-  undone_of (Ok (Some g)) r n e = ?
+  undone_of (Ok (Some g)) r n e =
+      let a = answer_of_read links g in
+      ⊎_elim
+      (λ (y : fit a room₁ room₂ ≡ true).
+      let whole : copy_of r after₁ after₂ ≡ copy_of (Ok (Some (answer_copy a))) (sets room₁ 0 a.costs) (sets room₂ 0 (pair_numbers a.pairs))
+      = rw y at e in
+      absurd (n (answer_copy a) (ap (λ (c : Copy). c.said) whole)))
+      (λ (m : fit a room₁ room₂ ≡ false).
+      let short : copy_of r after₁ after₂ ≡ copy_of (Err Room) room₁ room₂ = rw m at e in
+      (ap (λ (c : Copy). c.costs) short, ap (λ (c : Copy). c.pairs) short))
+      (truth (fit a room₁ room₂))
   undone_of (Ok None) r n e = (ap (λ (c : Copy). c.costs) e, ap (λ (c : Copy). c.pairs) e)
   undone_of (Err q) r n e = (ap (λ (c : Copy). c.costs) e, ap (λ (c : Copy). c.pairs) e)
 
