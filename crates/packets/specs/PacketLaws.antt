@@ -24,7 +24,7 @@ use Rattle.replay.specs.Log.{stepped, heard, replayed}
 use Rattle.replay.specs.LogReading.{is_packet, read_log}
 use Rattle.replay.proofs.LogLaws.{packet_is, is_packet_lem, log_end, log_unread, log_inside, log_barred, log_turn}
 use Rattle.packets.specs.declared.Packet.{Packet}
-use Rattle.packets.specs.Packets.{packet_from, packet_at}
+use Rattle.packets.specs.Packets.{packet_from, packet_at, step_in}
 
 -- ---- one packet: a link, and behind it the byte of its direction
 
@@ -164,10 +164,6 @@ refused_none m s at l (Model.Entry.entry e d k) h q = of _ (is_packet m e d) ref
     of : (p : Packet) (b : Bool) → is_packet m e d ≡ b → None ≡ choose b (λ _. Some p) (λ _. None) → read_log m (drop at s) ≡ none
     of p false t q = log_barred m s at e d k h t
     of p true t q = absurd (none-some p q)
-
--- What the packet says, in the words of the definitions.
-abbrev pub step_in : Packet → Log.Packet
-step_in p = record { edge = p.edge; up = p.up }
 
 module _ (m : ℕ) (s : List ℕ) (at : ℕ) where
   pub packet_refused : at < length s → None ≡ packet_at m s at → read_log m (drop at s) ≡ none

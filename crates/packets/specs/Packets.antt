@@ -2,6 +2,7 @@
 use Rattle.std.specs.Prelude.{ℕ, ◌+◌, List, Option, Some, None, eqb, drop}
 use Rattle.loops.specs.Below.{choose}
 use Rattle.sheet.specs.Reading.{Entry, entry_of}
+use Rattle.replay.specs.Log as Log
 use Rattle.replay.specs.LogReading.{is_packet}
 use Rattle.packets.specs.declared.Packet.{Packet}
 
@@ -12,3 +13,7 @@ packet_from m at Entry.unread = None
 
 abbrev pub packet_at : ℕ → List ℕ → ℕ → Option Packet
 packet_at m s at = packet_from m at (entry_of (drop at s))
+
+-- The code's packet, in the words of the definitions.
+abbrev pub step_in : Packet → Log.Packet
+step_in p = record { edge = p.edge; up = p.up }

@@ -1,11 +1,10 @@
 -- Laws of packets heard over arrays, in the shape of the code: one packet, and the log so far. Assumes nothing.
-use Rattle.std.specs.Prelude.{ℕ, suc, ◌+◌, ◌<◌, ◌≤◌, ◌≡◌, refl, ◌⊎◌, Bool, true, false, List, ◌∷◌, length, get_or, set, drop}
+use Rattle.std.specs.Prelude.{ℕ, suc, ◌+◌, ◌<◌, ◌≤◌, ◌≡◌, refl, ◌⊎◌, Bool, true, false, List, ◌∷◌, Some, None, length, get_or, set, drop}
 use Rattle.std.proofs.Math.Decide.{dec_lt}
 use Rattle.std.proofs.Common.{arith, sym, subst, ◌∙◌, inl, inr, ne_eqb, lt-ltb, le-ltb}
 use Rattle.std.proofs.Math.Option.{none, map}
 use Rattle.limits.specs.Limits.{max_number}
 use Rattle.loops.specs.PutLaws.{put_own}
-use Rattle.loops.specs.TestLaws.{clash}
 use Rattle.sheet.specs.Sheet.{InRange}
 use Rattle.sheet.specs.Reading.{costs_at}
 use Rattle.replay.specs.Log.{Packet, stepped, heard}
@@ -60,20 +59,11 @@ module _ {edges : ℕ} {s : List ℕ} (count : (ℕ → ℕ) → ℕ) {cs cs' : 
     (h : HeardTo edges s (costs_at cs) (none_at count) at n (costs_at cs')) (left : v ≡ count (costs_at cs')) where
   pub watched_to :
       RangedCosts edges cs' → (v ≡ 0) ⊎ (length s ≤ at)
-      → Watched edges s count cs (record { read = true; count = n; at = at; violations = v }) cs'
-  watched_to p e = record { unread = λ q. clash refl q; heard = λ _. h; left = λ _. left; ends = λ _. e; priced = p }
+      → Watched edges s count cs (Some (record { count = n; at = at; violations = v })) cs'
+  watched_to p e = record { so_far = record { heard = h; left = left; ends = e }; priced = p }
 
-  pub watched_none :
-      RangedCosts edges cs' → read_log edges (drop at s) ≡ none
-      → Watched edges s count cs (record { read = false; count = n; at = at; violations = v }) cs'
-  watched_none p e =
-      record {
-        unread = λ _. heard_unread edges s (costs_at cs) (none_at count) at n (costs_at cs') h e;
-        heard = λ q. clash q refl;
-        left = λ q. clash q refl;
-        ends = λ q. clash q refl;
-        priced = p;
-      }
+  pub watched_none : RangedCosts edges cs' → read_log edges (drop at s) ≡ none → Watched edges s count cs None cs'
+  watched_none p e = record { so_far = heard_unread edges s (costs_at cs) (none_at count) at n (costs_at cs') h e; priced = p }
 
 -- One packet more.
 pub watched_more :

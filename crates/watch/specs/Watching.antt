@@ -1,5 +1,5 @@
 -- Packets heard until the marked tree is cheapest: what the functions over arrays ask for and give. Definitions only. Assumes nothing.
-use Rattle.std.specs.Prelude.{ℕ, ◌<◌, ◌≤◌, ◌≡◌, ◌⊎◌, Bool, true, false, List, eqb, length}
+use Rattle.std.specs.Prelude.{ℕ, ◌<◌, ◌≤◌, ◌≡◌, ◌⊎◌, Bool, List, Option, MatchOption, eqb, length}
 use Rattle.std.proofs.Math.Option.{none}
 use Rattle.sheet.specs.Sheet.{InRange}
 use Rattle.sheet.specs.Reading.{costs_at}
@@ -24,11 +24,15 @@ pub record Hears (edges b e : ℕ) (ranks as₁ as₂ as₃ as₄ mask : List �
 abbrev pub none_at : ((ℕ → ℕ) → ℕ) → (ℕ → ℕ) → Bool
 none_at count c = eqb (count c) 0
 
--- How far the log s has been heard, with the costs before and after, where `count` counts violations: every packet up to there is one
--- of the job; there is a violation before the last of them, at each number of packets; and there is none after it, or no packet is left.
-pub record Watched (edges : ℕ) (s : List ℕ) (count : (ℕ → ℕ) → ℕ) (cs : List ℕ) (r : Heard) (cs' : List ℕ) : Type 0 where
-  pub unread : r.read ≡ false → read_log edges s ≡ none
-  pub heard : r.read ≡ true → HeardTo edges s (costs_at cs) (none_at count) r.at r.count (costs_at cs')
-  pub left : r.read ≡ true → r.violations ≡ count (costs_at cs')
-  pub ends : r.read ≡ true → (r.violations ≡ 0) ⊎ (length s ≤ r.at)
+-- The log s has been heard as far as h says, with the costs before and after, where `count` counts violations: every packet up to there
+-- is one of the job; there is a violation before the last of them, at each number of packets; and there is none after it, or no packet
+-- is left.
+pub record HeardSoFar (edges : ℕ) (s : List ℕ) (count : (ℕ → ℕ) → ℕ) (cs : List ℕ) (h : Heard) (cs' : List ℕ) : Type 0 where
+  pub heard : HeardTo edges s (costs_at cs) (none_at count) h.at h.count (costs_at cs')
+  pub left : h.violations ≡ count (costs_at cs')
+  pub ends : (h.violations ≡ 0) ⊎ (length s ≤ h.at)
+
+-- How far the log s has been heard; or it is no log to the job.
+pub record Watched (edges : ℕ) (s : List ℕ) (count : (ℕ → ℕ) → ℕ) (cs : List ℕ) (r : Option Heard) (cs' : List ℕ) : Type 0 where
+  pub so_far : MatchOption r (read_log edges s ≡ none) (λ h. HeardSoFar edges s count cs h cs')
   pub priced : RangedCosts edges cs'

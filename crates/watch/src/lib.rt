@@ -9,14 +9,11 @@ ghost use Rattle.violations.specs.Counting.{Countable, violations_by};
 ghost use Rattle.watch.specs.Watching.{RangedCosts, Hears, Watched};
 
 use ids::Edge;
-use packets::Packet;
 
 // How far a log has been heard.
 #[derive(Clone, Copy)]
 pub struct Heard {
-    // Whether every packet so far is one of the job.
-    pub read: bool,
-    // How many there are, and the position behind them.
+    // How many packets, and the position behind them.
     pub count: usize,
     pub at: usize,
     // The violations after them: the tree is cheapest if there are none.
@@ -56,8 +53,8 @@ fn hear(
     after
 }
 
-// Hears the packets of a log until the marked tree is cheapest: from the start, after some of them, or not at all. The costs are left
-// as they then are.
+// Hears the packets of a log until the marked tree is cheapest: from the start, after some of them, or not at all; none if one so far
+// is none of the job. The costs are left as they then are.
 #[tactic(auto, using(crate::specs::WatchLaws::watched_to))]
 pub fn until_cheapest(
     log: &[u8],
@@ -68,37 +65,21 @@ pub fn until_cheapest(
     cost: &mut [u32; 256],
     mark: &[u32; 256],
     mask: &[u64; 64],
-) -> Heard
+) -> Option<Heard>
     requires by_index { (count : ℕ) × Countable edges count ranks.now end1.now end2.now mark.now mask.now }
     requires ranged_costs { RangedCosts edges cost.old }
     ensures { Watched edges log.now (violations_by edges ranks.now end1.now end2.now
         mark.now mask.now) cost.old result cost.new }
 {
-    let mut left = violations::count_all(edges, ranks, end1, end2, cost, mark, mask);
+    let mut violations = violations::count_all(edges, ranks, end1, end2, cost, mark, mask);
     let mut count: usize = 0;
     let mut at: usize = 0;
-    while at < log.len() {
-        if left == 0 {
-            return Heard {
-                read: true,
-                count: count,
-                at: at,
-                violations: left,
-            };
-        }
-        let packet = packets::packet_at(log, at, edges);
-        let Packet::Step(edge, up, next) = packet else {
-            return Heard {
-                read: false,
-                count: count,
-                at: at,
-                violations: left,
-            };
-        };
-        left = hear(
-            left,
-            Edge(edge),
-            up,
+    while at < log.len() && violations != 0 {
+        let packet = packets::packet_at(log, at, edges)?;
+        violations = hear(
+            violations,
+            Edge(packet.edge),
+            packet.up,
             edges,
             ranks,
             end1,
@@ -107,13 +88,12 @@ pub fn until_cheapest(
             mark,
             mask,
         );
-        at = next;
+        at = packet.next;
         count += 1;
     }
-    Heard {
-        read: true,
-        count: count,
-        at: at,
-        violations: left,
-    }
+    Some(Heard {
+        count,
+        at,
+        violations,
+    })
 }

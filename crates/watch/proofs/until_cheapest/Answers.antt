@@ -1,71 +1,43 @@
--- `watch::until_cheapest` meets its contract. The loop's invariant: the packets in front of the position have been heard, there was a
--- violation before each of them, and those that are left are counted. The measure is how many bytes are left. Assumes nothing.
-use Prim.Native.Nat.{◌<◌}
+-- `watch::until_cheapest` meets its contract. Assumes nothing.
 use native.Mathlib.Omega.{arith}
-use mathlib.Core.Logic.{inr}
-use mathlib.Core.Path.{sym, ◌∙◌}
-use Rattle.replay.specs.Log.{Packet}
 use Rattle.replay.proofs.Hearing.{heard_none}
+use Rattle.packets.specs.Packets.{step_in}
 use Rattle.packets.specs.PacketLaws.{packet_refused, packet_inside, packet_within, packet_rest}
 use Rattle.violations.specs.Counting.{violations_by}
-use Rattle.watch.specs.WatchLaws.{watched_to, watched_none, priced_more, watched_more}
+use Rattle.watch.specs.WatchLaws.{watched_none, priced_more, watched_more}
 use Rattle.watch.proofs.until_cheapest.Goals as goal
 
 pub loop-at-init : goal.loop-at-init
-loop-at-init c = record { priced = c.requires.ranged_costs; heard = heard_none _ _ _ _; left = c.count_all-left.ensures }
+loop-at-init c = record { priced = c.requires.ranged_costs; heard = heard_none _ _ _ _; left = c.count_all-violations.ensures }
 
-pub returns-in_default : goal.returns-in_default
-returns-in_default c =
+pub returns-in_err-packet : goal.returns-in_err-packet
+returns-in_err-packet c =
     let l = c.loop-at in
-    let h = l.invariant in
-    watched_none _ h.heard h.left h.priced
-    (packet_refused _ _ l.at c.loop-at-test.true (sym c.in_default.is ∙ c.packet_at-packet.ensures))
+    rw c.from_residual.ensures
+    (watched_none _ l.invariant.heard l.invariant.left l.invariant.priced (packet_refused _ _ l.at c.loop-at-test.true c.in_err-packet.ensures))
 
 -- The packet's link is in the job.
-pub hear-left-requires : goal.hear-left-requires
-hear-left-requires c =
+pub hear-violations-requires-clause-hears : goal.hear-violations-requires-clause-hears
+hear-violations-requires-clause-hears c =
     let h = c.loop-at.invariant in
-    record {
-      by_index = c.requires.by_index;
-      hears = record {
-        priced = h.priced;
-        inside = packet_inside _ _ _ _ _ _ (sym c.in-Step.is ∙ c.packet_at-packet.ensures);
-        before = h.left;
-      };
-    }
-
-pub overflow_add-count : goal.overflow_add-count
-overflow_add-count c = omega (arith, c.loop-at.invariant.heard.bytes, c.loop-at-test.true)
+    record { priced = h.priced; inside = packet_inside _ _ _ _ c.in_ok-packet.ensures; before = h.left }
 
 pub loop-at-smaller : goal.loop-at-smaller
-loop-at-smaller c =
-    omega (
-      arith,
-      packet_within c.args.edges c.args.log.now c.loop-at.at _ _ _ (sym c.in-Step.is ∙ c.packet_at-packet.ensures),
-      c.loop-at-test.true,
-    )
+loop-at-smaller c = omega (arith, packet_within _ _ _ c.in_ok-packet.packet c.in_ok-packet.ensures)
 
 pub loop-at-preserved : goal.loop-at-preserved
 loop-at-preserved c =
     let a = c.args in
     let l = c.loop-at in
     let h = l.invariant in
-    let packet = sym c.in-Step.is ∙ c.packet_at-packet.ensures in
-    let within : c.in-Step.edge < a.edges = packet_inside _ _ _ _ _ _ packet in
-    let (far, near) = packet_within a.edges a.log.now l.at _ _ _ packet in
-    let q : Packet = record { edge = c.in-Step.edge; up = c.in-Step.up } in
+    let p = c.in_ok-packet.packet in
+    let now = c.hear-violations in
+    let (far, near) = packet_within _ _ l.at p c.in_ok-packet.ensures in
     let count = violations_by a.edges a.ranks.now a.end1.now a.end2.now a.mark.now a.mask.now in
-    let costs = c.hear-left.new.cost in
-    let moved = c.hear-left.ensures.costs in
     record {
-      priced = priced_more a.edges l.cost costs q h.priced moved c.hear-left.ensures.places within;
-      heard =
-          watched_more a.edges a.log.now count a.cost.now l.cost costs _ _ _ h.heard h.left q c.in-Step.next moved
-          (λ none. omega (arith, none)) far near (packet_rest _ _ _ _ _ _ packet);
-      left = c.hear-left.ensures.violations;
+      priced = priced_more a.edges l.cost now.new.cost (step_in p) h.priced now.ensures.costs now.ensures.places
+          (packet_inside _ _ _ p c.in_ok-packet.ensures);
+      heard = watched_more a.edges a.log.now count a.cost.now l.cost now.new.cost _ _ _ h.heard h.left (step_in p) p.next now.ensures.costs
+          (λ none. omega (arith, none)) far near (packet_rest _ _ _ p c.in_ok-packet.ensures);
+      left = now.ensures.violations;
     }
-
-pub returns : goal.returns
-returns c =
-    let h = c.loop-at.invariant in
-    watched_to _ h.heard h.left h.priced (inr (omega (arith, c.loop-at-test.false)))

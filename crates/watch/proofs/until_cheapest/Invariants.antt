@@ -14,7 +14,7 @@ invariant-loop-at l = record {
   priced : RangedCosts l.edges l.cost;
   heard : HeardTo l.edges l.log (costs_at l.initial.cost) (none_at (violations_by l.edges l.ranks l.end1 l.end2 l.mark l.mask))
       l.at l.count (costs_at l.cost);
-  left : l.left ≡ violations_by l.edges l.ranks l.end1 l.end2 l.mark l.mask (costs_at l.cost);
+  left : l.violations ≡ violations_by l.edges l.ranks l.end1 l.end2 l.mark l.mask (costs_at l.cost);
 }
 
 abbrev pub decreases-loop-at : goal.decreases-loop-at
