@@ -1,6 +1,6 @@
 -- What follows of a frame that was asked questions 1 to 6: its refusal and its counts; and arrays that hold a job were so
 -- filled for a frame. Assumes nothing.
-use Rattle.std.specs.Prelude.{ℕ, ◌≡◌, List, Result, Ok, length}
+use Rattle.std.specs.Prelude.{ℕ, ◌≡◌, List, Result, Ok, Err, IfOk, length}
 use Rattle.std.proofs.Common.{sym, ap, subst, ◌∙◌}
 use Rattle.limits.specs.declared.Refusal.{Refusal}
 use Rattle.limits.specs.Refusals.{refusal_in}
@@ -34,3 +34,8 @@ held_asked {h} {a} (j, k) =
         held = subst (λ (j : Job). Held j h.nodes h.edges a) (sym same) k;
       },
     )
+
+-- Arrays that hold the job of an accepted frame hold some job.
+pub some_held : (r : Result Header Refusal) (j : Job) (a : Arrays) → IfOk r (λ h. Held j h.nodes h.edges a) → SomeHeld r a
+some_held (Ok h) j a k = (j, k)
+some_held (Err q) j a k = tt

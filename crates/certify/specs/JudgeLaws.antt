@@ -1,6 +1,6 @@
 -- The judge of answer frames over arrays is the model's: each of its tests, a frame that is not read, and the verdict.
 -- Assumes nothing.
-use Rattle.std.specs.Prelude.{ℕ, suc, ◌-◌, ◌≤◌, ◌<◌, ◌≡◌, refl, false, not, ◌&&◌, ◌||◌, List, [], ◌∷◌, leb, length, take}
+use Rattle.std.specs.Prelude.{ℕ, suc, ◌-◌, ◌≤◌, ◌<◌, ◌≡◌, refl, false, not, ◌&&◌, ◌||◌, List, [], ◌∷◌, Some, None, leb, length, take}
 use Rattle.std.proofs.Common.{arith, ap, ap₂, subst, ◌∙◌, inl, inr, ltb-true, eq-eqb, ne_eqb}
 use Rattle.std.proofs.Math.Path.{sym}
 use Rattle.std.proofs.Math.Bool.{Bool, true}
@@ -168,7 +168,7 @@ module _ (steps x : ℕ) (cheapest held rise : Bool) (w : ℕ) where
 
 -- The job in the arrays, and what was read.
 module _ (j : Job) (nodes edges : ℕ) (a : Arrays) (h : Held j nodes edges a)
-    (frame : List ℕ) (r : Contents) (costs ps : List ℕ) (found : contents edges r costs ps ≡ few (read_answer edges frame)) where
+    (frame costs ps : List ℕ) where
   abbrev graph_at : Graph
   graph_at = array_graph nodes edges a.links.end₁ a.links.end₂ a.links.mark
 
@@ -198,8 +198,8 @@ module _ (j : Job) (nodes edges : ℕ) (a : Arrays) (h : Held j nodes edges a)
   judged_none e = rw (sym h.stored.edges_are, e)
 
   -- A frame that was not read.
-  pub verdict_unread : r.ok ≡ false → judge_answer j frame ≡ false
-  verdict_unread unread = of (read_answer edges frame) refl
+  pub verdict_unread : contents edges None costs ps ≡ few (read_answer edges frame) → judge_answer j frame ≡ false
+  verdict_unread found = of (read_answer edges frame) refl
     where
       of : (o : Option Answer) → read_answer edges frame ≡ o → judge_answer j frame ≡ false
       of none e = judged_none e
@@ -210,7 +210,7 @@ module _ (j : Job) (nodes edges : ℕ) (a : Arrays) (h : Held j nodes edges a)
             | inl y ↦
                 absurd (omega (
                   arith,
-                  missed_answer edges r costs ps (read_answer edges frame) found unread b e,
+                  missed_answer edges costs ps (read_answer edges frame) found b e,
                   pairs_few graph_at tree_at old_cost ranks_at b lists y,
                   few_nodes h,
                   ap length h.ranks,
@@ -219,7 +219,7 @@ module _ (j : Job) (nodes edges : ℕ) (a : Arrays) (h : Held j nodes edges a)
           ]
 
   -- A frame that was read.
-  module _ (read : r.ok ≡ true) where
+  module _ (r : Contents) (found : contents edges (Some r) costs ps ≡ few (read_answer edges frame)) where
     pub verdict_read :
         judge_answer j frame
         ≡ five_tests r.steps (sum edges (λ e. gap (get_or costs e 0) (get_or a.links.cost e 0)))
@@ -230,7 +230,7 @@ module _ (j : Job) (nodes edges : ℕ) (a : Arrays) (h : Held j nodes edges a)
         (sum r.count (fall ps a.links.cost))
     unfolding answer_holds five_tests
     verdict_read =
-        judged_some _ (found_answer edges r costs ps (read_answer edges frame) found read)
+        judged_some _ (found_answer edges costs ps r (read_answer edges frame) found)
         ∙ rw (
           steps_model edges costs old_cost,
           judge_alike graph_at tree_at (array_cost costs) (λ e. get_or (tabulate edges (λ e. get_or costs e 0)) e 0) ranks_at lists.below

@@ -30,10 +30,9 @@ pub fn certify(
     let trees = nodes as usize - 1;
     let mut costs = [0u32; 256];
     let mut pairs = [0u32; 128];
-    let found = load_answer(frame, edges, &mut costs, &mut pairs);
-    if !found.ok {
+    let Some(found) = load_answer(frame, edges, &mut costs, &mut pairs) else {
         return false;
-    }
+    };
     let steps = found.steps as u64;
     let count = found.count;
     if weighing::steps(edges, cost, &costs) != steps {

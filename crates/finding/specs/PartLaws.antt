@@ -1,5 +1,5 @@
 -- The finders' parts are what they should be. Assumes nothing.
-use Rattle.std.specs.Prelude.{ℕ, ◌+◌, ◌-◌, ◌<◌, ◌≤◌, ◌≡◌, refl, false, List, eqb, length, take, drop}
+use Rattle.std.specs.Prelude.{ℕ, ◌+◌, ◌-◌, ◌<◌, ◌≤◌, ◌≡◌, refl, Bool, true, false, List, Result, Ok, Err, IfOk, eqb, length, take, drop}
 use Rattle.std.proofs.Common.{arith, ap, subst, ◌∙◌, ⊎_elim, eqb-true}
 use Rattle.std.proofs.Math.Path.{sym}
 use Rattle.std.proofs.lemmas.Bool.{eqb-false}
@@ -15,14 +15,12 @@ use Rattle.frame.proofs.Accepted.{accepted, accepted_layout}
 use Rattle.frame.proofs.Finders.{link_shown, link_refused, link_past, cost_nowhere_refused, cost_nowhere_past, cost_nowhere_judged}
 use Rattle.frame.proofs.Finders.{cost_placed, cost_shown, cost_refused, cost_past, cost_judged_no}
 use Rattle.job.specs.declared.Header.{Header}
-use Rattle.job.specs.Reading.{header, layout_header}
-use Rattle.accept.specs.Accepting.{accepted_header}
-use Rattle.accept.specs.AcceptLaws.{accepted_number}
+use Rattle.job.specs.Reading.{Headed, Laid}
 use Rattle.answer_read.specs.Costs.{CostIn, cost_place_in}
 use Rattle.finding.specs.Parts.{LinkFound, CostFound, LinkLocated, CostLocated}
 use Rattle.judging.specs.Verdicts.{AnswerJudged}
-use Rattle.judging.specs.declared.Verdict.{Verdict}
-use Rattle.judging.specs.declared.Verdict.TheVariants.{Yes}
+use Rattle.limits.specs.declared.Refusal.{Refusal}
+use Rattle.limits.specs.Refusals.{refusal_in}
 
 -- The part between a place's two ends.
 pub between_ends :
@@ -33,11 +31,10 @@ between_ends P s place h =
     let size : (place.offset + place.size) - place.offset ≡ place.size = omega arith in
     subst (λ (n : ℕ). P (take n (drop place.offset s))) (sym size) h
 
--- The header of an accepted frame is the reader's.
-pub header_read : (s : List ℕ) (h : Header) → h ≡ accepted_header s → h.refusal ≡ 0 → h ≡ layout_header s
-header_read s h e z =
-    let none : refusal s ≡ 0 = accepted_number s h e ∙ z in
-    e ∙ ap (λ (r : ℕ). header r (job_of s)) (none ∙ sym (accepted_layout s none))
+-- The counts of an accepted frame are the reader's.
+pub header_read : (s : List ℕ) (r : Result Header Refusal) → Headed (refusal s) (job_of s) r → IfOk r (λ h. Laid s h)
+header_read s (Ok h) k = record { passed = accepted_layout s (sym k.number); counts = k.counts }
+header_read s (Err q) k = tt
 
 link_found : (s : List ℕ) → Bytes s → (e : ℕ) → LinkFound s e (link_part (refusal s) s e)
 link_found s b e =
@@ -51,14 +48,14 @@ link_found s b e =
 pub link_located :
     (s : List ℕ) →
     Bytes s →
-    (h : Header) →
-    h ≡ accepted_header s →
+    (r : Result Header Refusal) →
+    Headed (refusal s) (job_of s) r →
     (e : ℕ) (place : Place) →
-    place ≡ link_place h.refusal s e →
+    place ≡ link_place (refusal_in r) s e →
     place.offset + place.size ≤ length s →
     LinkLocated s e place
-link_located s b h q e place p w =
-    let is : place ≡ link_place (refusal s) s e = p ∙ ap (λ (r : ℕ). link_place r s e) (sym (accepted_number s h q)) in
+link_located s b r k e place p w =
+    let is : place ≡ link_place (refusal s) s e = p ∙ ap (λ (r : ℕ). link_place r s e) k.number in
     record { is = is; within = w; found = subst (λ t. LinkFound s e (part_at t s)) (sym is) (link_found s b e) }
 
 module _ (s f : List ℕ) (b : Bytes s) (q : Bytes f) (e : ℕ) where
@@ -89,7 +86,7 @@ module _ (s f : List ℕ) (b : Bytes s) (q : Bytes f) (e : ℕ) where
   pub cost_refused_nowhere : (refusal s ≡ 0 → ⊥) → (place : Place) → place ≡ nowhere → CostLocated s f e place
   cost_refused_nowhere n place is = subst (λ t. CostLocated s f e t) (sym is) (cost_nowhere (sym (cost_nowhere_refused s f e n)))
 
-  pub cost_unjudged : (r : Verdict) → AnswerJudged s f r → (r ≡ Yes → ⊥) → CostLocated s f e nowhere
+  pub cost_unjudged : (r : Result Bool Refusal) → AnswerJudged s f r → (r ≡ Ok true → ⊥) → CostLocated s f e nowhere
   cost_unjudged r v n =
       let word : refusal s ≡ 0 → judge_answer (job_of s) f ≡ false
       = λ z. ⊎_elim (λ y. absurd (n (v.yes_means.1 (z, (answer_judged (job_of s) (accepted s b z) f q).0 y)))) (λ w. w) (truth (judge_answer (job_of s) f)) in
@@ -98,7 +95,7 @@ module _ (s f : List ℕ) (b : Bytes s) (q : Bytes f) (e : ℕ) where
       (truth (eqb (refusal s) 0)))
 
   -- Where the answer is judged yes and the link is there, its new cost is.
-  module _ (inside : e < length (job_of s).links) (r : Verdict) (v : AnswerJudged s f r) (yes : r ≡ Yes) where
+  module _ (inside : e < length (job_of s).links) (r : Result Bool Refusal) (v : AnswerJudged s f r) (yes : r ≡ Ok true) where
     pub cost_in : CostIn f e
     cost_in =
         let (_, (a, c)) = v.yes_means.0 yes in

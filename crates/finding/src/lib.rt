@@ -1,7 +1,7 @@
 // Finds one link's four numbers in a job frame and its new cost in an answer frame, as the frame's own bytes.
 #![tactic(auto)]
 
-ghost use Rattle.std.specs.Prelude.{◌≡◌, ◌≢◌, List, ℕ};
+ghost use Rattle.std.specs.Prelude.{◌≡◌, List, ℕ, IfErr};
 ghost use Rattle.frame.specs.Services.{nowhere};
 ghost use Rattle.codec.specs.Numbers.{place_of};
 ghost use Rattle.frame.specs.Arrays.{arrays};
@@ -12,7 +12,8 @@ use accept::accept;
 use codec::Part;
 use ids::Edge;
 use job::Header;
-use judging::{Verdict, judge_answer_held};
+use judging::judge_answer_held;
+use limits::Refusal;
 
 // Where a link's bytes stand; nowhere, of length 0, if the frame is refused or has no such link.
 pub fn locate_link(frame: &[u8], edge: Edge) -> Part
@@ -24,10 +25,10 @@ pub fn locate_link(frame: &[u8], edge: Edge) -> Part
     let mut mark = [0u32; 256];
     let mut ts = [0u32; 256];
     let mut mask = [0u64; 64];
-    let header = accept(
+    let accepted = accept(
         frame, &mut end1, &mut end2, &mut cost, &mut mark, &mut ts, &mut mask, false,
     );
-    job::link_part(frame, header, edge)
+    job::link_part(frame, accepted, edge)
 }
 
 // The bytes of a link; none if the frame is refused or has no such link.
@@ -43,7 +44,7 @@ pub fn find_link(frame: &[u8], edge: Edge) -> &[u8]
 // Where a link's new cost stands in the frame offered as an answer to a job in arrays; nowhere, of length 0, if the job was
 // refused, has no such link, or the offered frame is not judged yes.
 pub fn locate_cost_held(
-    header: Header,
+    accepted: Result<Header, Refusal>,
     end1: &[u32; 256],
     end2: &[u32; 256],
     cost: &[u32; 256],
@@ -53,21 +54,27 @@ pub fn locate_cost_held(
     offered: &[u8],
     edge: Edge,
 ) -> Part
-    requires { SomeHeld header (arrays end1.now end2.now cost.now mark.now ts.now mask.now) }
+    requires { SomeHeld accepted (arrays end1.now end2.now cost.now mark.now ts.now mask.now) }
     ensures located { (s : List ℕ)
-        → Asked s header (arrays end1.now end2.now cost.now mark.now ts.now mask.now)
+        → Asked s accepted (arrays end1.now end2.now cost.now mark.now ts.now mask.now)
         → CostLocated s offered.now edge.0 (place_of result) }
-    ensures refused { header.refusal ≢ 0 → place_of result ≡ nowhere }
+    ensures refused { IfErr accepted (λ _. place_of result ≡ nowhere) }
 {
     let e = edge.0;
+    let Ok(header) = accepted else {
+        return Part {
+            offset: 0,
+            length: 0,
+        };
+    };
     if header.edges <= e {
         return Part {
             offset: 0,
             length: 0,
         };
     }
-    let verdict = judge_answer_held(header, end1, end2, cost, mark, ts, mask, offered);
-    let Verdict::Yes = verdict else {
+    let verdict = judge_answer_held(accepted, end1, end2, cost, mark, ts, mask, offered);
+    let Ok(true) = verdict else {
         return Part {
             offset: 0,
             length: 0,
@@ -87,11 +94,11 @@ pub fn locate_cost(frame: &[u8], offered: &[u8], edge: Edge) -> Part
     let mut mark = [0u32; 256];
     let mut ts = [0u32; 256];
     let mut mask = [0u64; 64];
-    let header = accept(
+    let accepted = accept(
         frame, &mut end1, &mut end2, &mut cost, &mut mark, &mut ts, &mut mask, true,
     );
     locate_cost_held(
-        header, &end1, &end2, &cost, &mark, &ts, &mask, offered, edge,
+        accepted, &end1, &end2, &cost, &mark, &ts, &mask, offered, edge,
     )
 }
 

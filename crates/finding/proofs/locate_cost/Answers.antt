@@ -1,15 +1,17 @@
 -- `finding::locate_cost` meets its contract: the frame is asked the six questions, and its job's arrays are handed on.
 -- Assumes nothing.
+use Rattle.frame.specs.Questions.{job_of}
+use Rattle.accept.specs.AskedLaws.{some_held}
 use Rattle.finding.proofs.locate_cost.Goals as goal
 
 pub locate_cost_held-requires : goal.locate_cost_held-requires
-locate_cost_held-requires c = λ z. (_, c.accept-header.ensures.job z)
+locate_cost_held-requires c = some_held _ (job_of c.args.frame.now) _ c.accept-accepted.ensures.job
 
 pub returns : goal.returns
 returns c =
     c.locate_cost_held.ensures.located _
     (record {
       bytes = λ i. (c.type_inv.frame i).fits;
-      header_is = c.accept-header.ensures.header;
-      held = c.accept-header.ensures.job;
+      headed = c.accept-accepted.ensures.header;
+      held = c.accept-accepted.ensures.job;
     })

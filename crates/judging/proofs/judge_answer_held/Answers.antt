@@ -1,39 +1,29 @@
 -- `judging::judge_answer_held` meets its contract: an accepted job's arrays are what the judge of
 -- answers asks for, and the word is the definition's. Assumes nothing.
-use mathlib.Core.Path.{refl, sym, ◌∙◌}
-use mathlib.Core.Bool.{true, false}
-use Rattle.frame.specs.Questions.{job_of, refusal}
-use Rattle.frame.specs.Answers.{judge_answer}
+use Rattle.std.proofs.lemmas.Result.{err_from_is_err_and}
+use Rattle.std.proofs.Common.{refl, sym}
 use Rattle.accept.specs.AskedLaws.{asked_number}
-use Rattle.judging.proofs.VerdictLaws.{answer_judged_of, verdict_refused, verdict_word}
+use Rattle.judging.proofs.VerdictLaws.{answer_judged_of, refused_judged}
 use Rattle.judging.proofs.judge_answer_held.Goals as goal
 
-pub returns-then-first-ne0 : goal.returns-then-first-ne0
-returns-then-first-ne0 c =
+pub returns-in_err-counts : goal.returns-in_err-counts
+returns-in_err-counts c =
+    let p = err_from_is_err_and c.from_residual.result c.from_residual.ensures.1 in
+    rw (p.1, p.2)
     record {
-      judged = λ s k. answer_judged_of s k.bytes _ (λ i. (c.type_inv.offered i).fits) _
-          (verdict_refused (refusal s) _ _ (asked_number k) c.if-first-ne0.true);
-      refused = λ _. refl;
+      judged = λ s k. refused_judged s k.bytes _ _ c.in_err-counts.field-0.0 (asked_number (rw c.in_err-counts.was at k));
+      refused = rw c.in_err-counts.was refl;
     }
 
-pub certify-requires : goal.certify-requires
-certify-requires c =
-    c.requires c.if-first-ne0.false
-
-pub returns-then-not-certify : goal.returns-then-not-certify
-returns-then-not-certify c =
-    let z = c.if-first-ne0.false in record {
-      judged = λ s k. answer_judged_of s k.bytes _ (λ i. (c.type_inv.offered i).fits) _
-          (verdict_word (refusal s) (judge_answer (job_of s) _) false (asked_number k ∙ z)
-          (sym (c.if-not-certify.true) ∙ c.certify.ensures _ (k.held z)));
-      refused = λ n. absurd (n z);
-    }
+pub certify-certified-requires : goal.certify-certified-requires
+certify-certified-requires c = rw c.in_ok-counts.was at c.requires
 
 pub returns : goal.returns
 returns c =
-    let z = c.if-first-ne0.false in record {
-      judged = λ s k. answer_judged_of s k.bytes _ (λ i. (c.type_inv.offered i).fits) _
-          (verdict_word (refusal s) (judge_answer (job_of s) _) true (asked_number k ∙ z)
-          (sym (c.if-not-certify.false) ∙ c.certify.ensures _ (k.held z)));
-      refused = λ n. absurd (n z);
+    record {
+      judged = λ s k.
+          let held = rw c.in_ok-counts.was at k in
+          answer_judged_of s k.bytes _ (λ i. (c.type_inv.offered i).fits) _
+          (record { number = sym (asked_number held); word_is = c.certify-certified.ensures _ held.held });
+      refused = rw c.in_ok-counts.was tt;
     }
