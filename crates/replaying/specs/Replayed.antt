@@ -1,7 +1,11 @@
 -- What the service that replays packet logs promises. Definitions only. Assumes nothing.
-use Rattle.std.specs.Prelude.{ℕ, zero, suc, ◌≤◌, ◌≡◌, List, [], pos, length, take}
-use Rattle.std.proofs.Math.Option.{Option, some, none, get_or}
+use Rattle.std.specs.Prelude.{ℕ, zero, suc, ◌≤◌, ◌≡◌, List, [], eqb, pos, Option, Some, None, Result, Ok, Err, IfOk, length, take}
+use Rattle.std.specs.Bool.{then_some}
+use Rattle.std.proofs.Math.Option as maybe
+use Rattle.std.proofs.Math.Option.{some, none, get_or}
 use Rattle.limits.specs.Limits.{costs_most}
+use Rattle.limits.specs.declared.Refusal.{Refusal}
+use Rattle.limits.specs.Refusals.{refusal_in}
 use Rattle.graph.specs.Graph.{Minimum}
 use Rattle.frame.specs.Job.{Job, graph_of, tree_of, cost_of}
 use Rattle.frame.specs.Meaning.{FirstNoWith}
@@ -13,18 +17,25 @@ use Rattle.sheet.specs.Reading.{is_some}
 use Rattle.replay.specs.Log.{Packet, LogOf, replayed, FirstCheapest}
 use Rattle.replay.specs.LogReading.{read_log}
 use Rattle.replay.specs.Replaying.{job_edges, replay_bytes, first_of}
-use Rattle.replaying.specs.declared.When.{When}
-use Rattle.replaying.specs.declared.When.TheVariants.{After, Never}
 use Rattle.replaying.specs.declared.Replayed.{Replayed}
 
--- The number of packets that the enum tells, 0 for "from the start"; none for "never".
-abbrev pub packets_told : When → Option ℕ
-packets_told (After k) = some k
-packets_told Never = none
+-- The number of packets that the code tells, 0 for "from the start"; none for "never".
+abbrev pub packets_told : Option ℕ → maybe.Option ℕ
+packets_told (Some k) = some k
+packets_told None = none
+
+-- What a reply says of it, and how many bytes it says were written: beside a refusal never, and none.
+abbrev pub first_told : Result Replayed Refusal → maybe.Option ℕ
+first_told (Ok x) = packets_told x.first
+first_told (Err q) = none
+
+abbrev pub length_told : Result Replayed Refusal → ℕ
+length_told (Ok x) = x.length
+length_told (Err q) = 0
 
 -- A reply, with the area as it then is.
-abbrev pub replay_outcome : Replayed → List ℕ → Outcome
-replay_outcome r area = record { refusal = r.refusal; size = r.length; area = area }
+abbrev pub replay_outcome : Result Replayed Refusal → List ℕ → Outcome
+replay_outcome r area = record { refusal = refusal_in r; size = length_told r; area = area }
 
 -- The bytes of the final costs, as a function of the job frame s and the log f.
 abbrev pub replay_for : List ℕ → List ℕ → List ℕ
@@ -36,16 +47,16 @@ replay_refusal s f = later (refusal s) (is_some (replay_bytes (job_of s) f)) 9
 
 -- The first number of packets after which the tree is cheapest, of a log that was read; beside a refusal, and where there is no such
 -- number, none.
-abbrev pub first_in : Job → Option (List Packet) → Option ℕ
+abbrev pub first_in : Job → maybe.Option (List Packet) → maybe.Option ℕ
 first_in j (some qs) = first_of j qs
 first_in j none = none
 
-abbrev pub first_for : ℕ → List ℕ → List ℕ → Option ℕ
+abbrev pub first_for : ℕ → List ℕ → List ℕ → maybe.Option ℕ
 first_for zero s f = first_in (job_of s) (read_log (job_edges (job_of s)) f)
 first_for (suc r) s f = none
 
 -- The log f to the job j leads to the costs b, and this is the first number of packets after which the marked tree was cheapest.
-pub record ReplayGiven (j : Job) (f b : List ℕ) (told : Option ℕ) : Type 0 where
+pub record ReplayGiven (j : Job) (f b : List ℕ) (told : maybe.Option ℕ) : Type 0 where
   pub packets : List Packet
   pub log : LogOf (job_edges j) f packets
   -- what a plain table of costs holds after these packets
@@ -56,27 +67,17 @@ pub record ReplayGiven (j : Job) (f b : List ℕ) (told : Option ℕ) : Type 0 w
   pub most : length b ≤ costs_most
 
 -- The reply r to the job frame s and the log f, with the area before and after.
-pub record LogReplayed (s f area : List ℕ) (r : Replayed) (after : List ℕ) : Type 0 where
+pub record LogReplayed (s f area : List ℕ) (r : Result Replayed Refusal) (after : List ℕ) : Type 0 where
   -- number, length and every byte, as a function of the two frames and the area
   pub served : Served (replay_refusal s f) (replay_for s f) area (replay_outcome r after)
   -- the number before question 7 is that of the first "no"
   pub question : FirstNoWith s 9 ((qs : List Packet) × LogOf (job_edges (job_of s)) f qs) (replay_refusal s f)
   -- what is said beside it, as such a function too: never, on every refusal
-  pub first : packets_told r.first ≡ first_for r.refusal s f
-  pub done : r.refusal ≡ 0 → ReplayGiven (job_of s) f (take r.length after) (packets_told r.first)
+  pub first : first_told r ≡ first_for (refusal_in r) s f
+  pub done : IfOk r (λ x. ReplayGiven (job_of s) f (take x.length after) (packets_told x.first))
 
 -- ---- the steps of the code
 
--- A refusal: no length, and never.
-abbrev pub refused_replay : ℕ → Replayed
-refused_replay refusal = record { refusal = refusal; length = 0; first = Never }
-
--- The first number, by the violations that are left after so many packets.
-abbrev pub when_left : ℕ → ℕ → When
-when_left zero count = After count
-when_left (suc v) count = Never
-
--- What was written, with the first number; beside a refusal never.
-abbrev pub with_first : ℕ → ℕ → When → Replayed
-with_first zero length when = record { refusal = 0; length = length; first = when }
-with_first (suc r) length when = refused_replay (suc r)
+-- The first number, by the violations that are left after so many packets: the tree is cheapest if there are none.
+abbrev pub when_left : ℕ → ℕ → Option ℕ
+when_left v count = then_some (eqb v 0) count

@@ -1,5 +1,5 @@
 -- What the services on step sheets promise. Definitions only. Assumes nothing.
-use Rattle.std.specs.Prelude.{ℕ, ◌≤◌, ◌≡◌, List, [], length, take}
+use Rattle.std.specs.Prelude.{ℕ, ◌≤◌, ◌≡◌, List, [], Result, IfOk, length, take}
 use Rattle.std.proofs.Math.Option.{some, get_or}
 use Rattle.limits.specs.Limits.{sheet_most, costs_most}
 use Rattle.number.specs.Number.{Bytes}
@@ -9,10 +9,10 @@ use Rattle.frame.specs.Meaning.{FirstNoWith}
 use Rattle.frame.specs.AnswerMeaning.{Certified}
 use Rattle.frame.specs.Services.{Served}
 use Rattle.frame.specs.Questions.{job_of, refusal, later}
-use Rattle.codec.specs.declared.Reply.{Reply}
+use Rattle.limits.specs.declared.Refusal.{Refusal}
 use Rattle.codec.specs.Numbers.{outcome}
 use Rattle.job.specs.declared.Header.{Header}
-use Rattle.accept.specs.Accepting.{accepted_header}
+use Rattle.job.specs.Reading.{Headed}
 use Rattle.sheet.specs.Sheet.{Move, SheetOf, InRange, CostsOf, LeadsTo, Translated, move_sum}
 use Rattle.sheet.specs.Reading.{is_some, sheet_bytes, costs_bytes, costs_at}
 
@@ -51,27 +51,26 @@ pub record CostsGiven (j : Job) (f b : List ℕ) : Type 0 where
   pub most : length b ≤ costs_most
 
 -- The reply r to the job frame s and the costs f, with the area before and after.
-pub record SheetMade (s f area : List ℕ) (r : Reply) (after : List ℕ) : Type 0 where
+pub record SheetMade (s f area : List ℕ) (r : Result ℕ Refusal) (after : List ℕ) : Type 0 where
   -- number, length and every byte, as a function of the two frames and the area
   pub served : Served (sheet_refusal s f) (sheet_for s f) area (outcome r after)
   -- the number before question 7 is that of the first "no"
   pub first : FirstNoWith s 8 ((d : ℕ → ℕ) × CostsOf (link_count (job_of s)) f d) (sheet_refusal s f)
-  pub done : r.refusal ≡ 0 → SheetGiven (job_of s) f (take r.length after)
+  pub done : IfOk r (λ n. SheetGiven (job_of s) f (take n after))
 
 -- The reply r to the job frame s and the sheet f, with the area before and after.
-pub record SheetApplied (s f area : List ℕ) (r : Reply) (after : List ℕ) : Type 0 where
+pub record SheetApplied (s f area : List ℕ) (r : Result ℕ Refusal) (after : List ℕ) : Type 0 where
   pub served : Served (costs_refusal s f) (costs_for s f) area (outcome r after)
   pub first :
       FirstNoWith s 8 ((ks : List Move) × SheetOf (link_count (job_of s)) f ks × ((d : ℕ → ℕ) × LeadsTo (link_count (job_of s)) ks (cost_of (job_of s)) d))
       (costs_refusal s f)
-  pub done : r.refusal ≡ 0 → CostsGiven (job_of s) f (take r.length after)
+  pub done : IfOk r (λ n. CostsGiven (job_of s) f (take n after))
 
 -- The frame s has been asked questions 1 to 6: what they said, and an accepted job's costs in the array.
-pub record AskedCosts (s : List ℕ) (h : Header) (cs : List ℕ) : Type 0 where
+pub record AskedCosts (s : List ℕ) (r : Result Header Refusal) (cs : List ℕ) : Type 0 where
   pub bytes : Bytes s
-  pub header_is : h ≡ accepted_header s
-  pub edges : h.refusal ≡ 0 → h.edges ≡ link_count (job_of s)
-  pub costs : h.refusal ≡ 0 → costs_at cs ≡ cost_of (job_of s)
+  pub headed : Headed (refusal s) (job_of s) r
+  pub costs : IfOk r (λ _. costs_at cs ≡ cost_of (job_of s))
 
 -- Where they have accepted, the array holds so many costs.
 pub record HasCosts (h : Header) (cs : List ℕ) : Type 0 where
@@ -79,5 +78,5 @@ pub record HasCosts (h : Header) (cs : List ℕ) : Type 0 where
   pub places : length cs ≡ 256
   pub limit : InRange h.edges (costs_at cs)
 
-abbrev pub SomeCosts : Header → List ℕ → Type 0
-SomeCosts h cs = h.refusal ≡ 0 → HasCosts h cs
+abbrev pub SomeCosts : Result Header Refusal → List ℕ → Type 0
+SomeCosts r cs = IfOk r (λ h. HasCosts h cs)

@@ -1,5 +1,5 @@
 -- A reply by the definition keeps what the services on step sheets promise. Assumes nothing.
-use Rattle.std.specs.Prelude.{ℕ, ◌≡◌, refl, true, List, [], ◌++◌, pos, nat_abs, ◌-ℤ◌, length, get_or}
+use Rattle.std.specs.Prelude.{ℕ, ◌≡◌, refl, true, List, [], ◌++◌, pos, nat_abs, ◌-ℤ◌, Result, Ok, Err, IfOk, length, get_or, take}
 use Rattle.std.proofs.Common.{arith, sym, ap, subst, ◌∙◌}
 use Rattle.std.proofs.Math.Decide.{dec_lt}
 use Rattle.std.proofs.Math.Option
@@ -12,12 +12,12 @@ use Rattle.optimum.specs.Optimum.{Answer}
 use Rattle.frame.specs.Job.{Job, bytes_of, cost_of}
 use Rattle.frame.specs.Meaning.{Small, Divides, Accepted}
 use Rattle.frame.specs.AnswerMeaning.{Certified}
-use Rattle.frame.specs.Services.{written}
+use Rattle.frame.specs.Services.{written, Served}
 use Rattle.frame.specs.Questions.{job_of, refusal}
 use Rattle.frame.proofs.Form.{later_first, later_none}
 use Rattle.frame.proofs.Accepted.{accepted, cost_small}
 use Rattle.frame.proofs.Outcomes.{served_of, served_none}
-use Rattle.codec.specs.declared.Reply.{Reply}
+use Rattle.limits.specs.declared.Refusal.{Refusal}
 use Rattle.codec.specs.Numbers.{outcome}
 use Rattle.sheet.specs.Sheet.{InRange, Translated, move_sum}
 use Rattle.sheet.specs.Reading.{is_some, sheet_bytes, costs_bytes}
@@ -73,31 +73,51 @@ module _ (j : Job) (a : Accepted j) where
         most = translated_costs_most (link_count j) a.edge_limit (cost_of j) old f b t;
       }
 
-module _ (s f area : List ℕ) (bytes : Bytes s) (bytes-in : Bytes f) (r : Reply) (after : List ℕ) where
+module _ (s f area : List ℕ) (bytes : Bytes s) (bytes-in : Bytes f) (r : Result ℕ Refusal) (after : List ℕ) where
   pub sheet_made_of : outcome r after ≡ written (sheet_refusal s f) (sheet_for s f) 0 area → SheetMade s f area r after
   sheet_made_of e =
-      let j = job_of s in
-      let sheet = sheet_bytes (link_count j) (cost_of j) f in
       let served = served_of (sheet_refusal s f) (sheet_for s f) area (outcome r after) e in
       record {
         served = served;
         first = later_first s 8 (is_some sheet) _ bytes (λ _. sheet_found (link_count j) (cost_of j) f bytes-in);
-        done = λ z.
-            let (six, there) = later_none (refusal s) (is_some sheet) 7 (served_none served z) in
-            subst (SheetGiven j f) (sym (served.front z)) (sheet_given j (accepted s bytes six) f (sheet_for s f) bytes-in (found_is sheet there));
+        done = whole r served;
       }
+    where
+      j : Job
+      j = job_of s
+
+      sheet : Option (List ℕ)
+      sheet = sheet_bytes (link_count j) (cost_of j) f
+
+      whole :
+          (r : Result ℕ Refusal) → Served (sheet_refusal s f) (sheet_for s f) area (outcome r after)
+          → IfOk r (λ n. SheetGiven j f (take n after))
+      whole (Ok n) served =
+          let (six, there) = later_none (refusal s) (is_some sheet) 7 (served_none served refl) in
+          subst (SheetGiven j f) (sym (served.front refl)) (sheet_given j (accepted s bytes six) f (sheet_for s f) bytes-in (found_is sheet there))
+      whole (Err q) served = tt
 
   pub sheet_applied_of : outcome r after ≡ written (costs_refusal s f) (costs_for s f) 0 area → SheetApplied s f area r after
   sheet_applied_of e =
-      let j = job_of s in
-      let costs = costs_bytes (link_count j) (cost_of j) f in
       let served = served_of (costs_refusal s f) (costs_for s f) area (outcome r after) e in
       record {
         served = served;
         first =
             later_first s 8 (is_some costs) _ bytes
             (λ six. let a = accepted s bytes six in costs_found (link_count j) a.edge_limit (cost_of j) (old j a) f bytes-in);
-        done = λ z.
-            let (six, there) = later_none (refusal s) (is_some costs) 7 (served_none served z) in
-            subst (CostsGiven j f) (sym (served.front z)) (costs_given j (accepted s bytes six) f (costs_for s f) bytes-in (found_is costs there));
+        done = whole r served;
       }
+    where
+      j : Job
+      j = job_of s
+
+      costs : Option (List ℕ)
+      costs = costs_bytes (link_count j) (cost_of j) f
+
+      whole :
+          (r : Result ℕ Refusal) → Served (costs_refusal s f) (costs_for s f) area (outcome r after)
+          → IfOk r (λ n. CostsGiven j f (take n after))
+      whole (Ok n) served =
+          let (six, there) = later_none (refusal s) (is_some costs) 7 (served_none served refl) in
+          subst (CostsGiven j f) (sym (served.front refl)) (costs_given j (accepted s bytes six) f (costs_for s f) bytes-in (found_is costs there))
+      whole (Err q) served = tt
