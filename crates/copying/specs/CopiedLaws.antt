@@ -1,6 +1,6 @@
 -- What it means that a frame was copied, or was not: what the arrays hold, with what was behind, and what was read.
 -- Assumes nothing.
-use Rattle.std.specs.Prelude.{ℕ, zero, suc, ◌+◌, ◌≡◌, refl, Bool, true, false, Option, Some, None, Result, Ok, Err, leb, length, drop}
+use Rattle.std.specs.Prelude.{ℕ, zero, suc, ◌+◌, ◌≡◌, refl, true, false, Option, Some, None, Result, Ok, Err, leb, length, drop}
 use Rattle.std.proofs.Common.{arith, sym, ap, ◌∙◌, ⊎_elim, leb-true}
 use mathlib.Core.List.{List, ◌++◌, flat_map}
 use Rattle.std.proofs.lemmas.List.Edits.{sets, sets-eq}
@@ -8,10 +8,9 @@ use Rattle.std.proofs.lemmas.Option.{none-some, same_Some}
 use Rattle.loops.specs.TestLaws.{truth, and_first, and_second}
 use Rattle.limits.specs.declared.Refusal.{Refusal}
 use Rattle.limits.specs.declared.Refusal.TheVariants.{Room}
-use Rattle.limits.specs.Refusals.{number_of}
 use Rattle.limits.specs.ResultLaws.{same_ok, ok-err, refusal_nonzero}
 use Rattle.optimum.specs.Optimum.{Answer}
-use Rattle.frame.specs.Job.{Job, fields, job_frame}
+use Rattle.frame.specs.Job.{fields, job_frame}
 use Rattle.frame.specs.Questions.{job_of, refusal}
 use Rattle.frame.specs.Services.{written}
 use Rattle.frame.specs.AnswerMeaning.{Certified}
@@ -21,7 +20,7 @@ use Rattle.reading.specs.declared.AnswerRead.{AnswerRead}
 use Rattle.reading.specs.AnswersRead.{answer_of_read, AnswerGiven}
 use Rattle.copying.specs.declared.JobCopy.{JobCopy}
 use Rattle.copying.specs.declared.AnswerCopy.{AnswerCopy}
-use Rattle.copying.specs.Copies.{JobCopied, pair_numbers, fit, answer_copy, Copy, copy_of, answer_into, copied, AnswerCopied}
+use Rattle.copying.specs.Copies.{JobCopied, pair_numbers, fit, answer_copy, Copy, copy_of, copied, AnswerCopied}
 
 -- Numbers in the first places of an array that has room for them, and behind them what it held.
 front : (xs room : List ℕ) → leb (length xs) (length room) ≡ true → sets room 0 xs ≡ xs ++ drop (length xs) room

@@ -1,12 +1,11 @@
 -- The copying services by the steps of the code: what was read, and whether it fits. Assumes nothing.
-use Rattle.std.specs.Prelude.{ℕ, ◌+◌, ◌*◌, ◌<◌, ◌≤◌, ◌≡◌, refl, true, false, Some, None, Ok, Err, leb, length, take}
-use Rattle.std.proofs.Common.{arith, sym, ap, subst, ◌∙◌, le-leb}
+use Rattle.std.specs.Prelude.{ℕ, ◌*◌, ◌<◌, ◌≤◌, ◌≡◌, refl, true, false, Some, None, Ok, Err, length, take}
+use Rattle.std.proofs.Common.{arith, sym, ap, ◌∙◌, le-leb}
 use mathlib.Core.List.{List, [], ◌∷◌, map, flat_map}
 use Rattle.std.proofs.lemmas.List.Edits.{sets}
 use Rattle.std.proofs.lemmas.Bool.{lt-leb}
 use Rattle.limits.specs.declared.Refusal.{Refusal}
 use Rattle.limits.specs.declared.Refusal.TheVariants.{Room}
-use Rattle.limits.specs.Refusals.{number_of}
 use Rattle.limits.specs.ResultLaws.{refusal_nonzero}
 use Rattle.frame.specs.Job.{JobLink, Job, fields}
 use Rattle.frame.specs.Questions.{job_of, numbers, refusal}
@@ -31,8 +30,7 @@ use Rattle.reading.specs.JobsRead.{JobGiven}
 use Rattle.reading.specs.AnswersRead.{answer_of_read, AnswerGiven}
 use Rattle.reading.specs.AnswerReadLaws.{pairs_most}
 use Rattle.filling.specs.Filling.{link_numbers}
-use Rattle.copying.specs.declared.AnswerCopy.{AnswerCopy}
-use Rattle.copying.specs.Copies.{job_outcome, JobCopied, pair_numbers, fit, copy_of, answer_into, AnswerCopied}
+use Rattle.copying.specs.Copies.{JobCopied, pair_numbers, fit, copy_of, answer_into, AnswerCopied}
 
 -- ---- jobs
 

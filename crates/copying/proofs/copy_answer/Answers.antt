@@ -3,8 +3,7 @@
 use native.Mathlib.Omega.{arith}
 use Prim.Native.Nat.{◌*◌, ◌<◌, ◌≤◌}
 use lib.ListN.{length}
-use Rattle.std.proofs.lemmas.Result.{err_from_is_err_and}
-use Rattle.std.specs.Prelude.{◌≡◌, Ok, Some}
+use Rattle.std.specs.Prelude.{Ok, Some}
 use Rattle.reading.specs.AnswersRead.{AnswerGiven}
 use Rattle.copying.specs.ServiceLaws.{edges_of, counts_there, accepted_job, answer_places, copied_pairs_few, costs_few, costs_unfit, pairs_unfit, answer_fit}
 use Rattle.copying.proofs.copy_answer.Goals as goal
