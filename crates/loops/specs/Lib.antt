@@ -9,3 +9,4 @@ pub mod FoldLaws
 pub mod SumLaws
 pub mod Ordered
 pub mod GatherLaws
+pub mod RangeLaws

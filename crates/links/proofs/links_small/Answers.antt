@@ -1,6 +1,6 @@
 -- Every link passes the test of one.
 use Rattle.std.proofs.Common.{rules, tests}
-use Rattle.links.proofs.RangeLaws.{all_over_range}
+use Rattle.loops.specs.RangeLaws.{all_over_range}
 use Rattle.links.proofs.links_small.Goals as goal
 
 pub returns : goal.returns

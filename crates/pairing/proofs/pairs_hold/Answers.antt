@@ -1,6 +1,6 @@
 -- Every pair passes the test of one.
 use Rattle.std.proofs.Common.{rules, tests}
-use Rattle.weighing.proofs.RangeLaws.{all_over_range}
+use Rattle.loops.specs.RangeLaws.{all_over_range}
 use Rattle.pairing.proofs.pairs_hold.Goals as goal
 
 pub returns : goal.returns

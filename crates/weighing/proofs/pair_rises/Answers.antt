@@ -1,6 +1,6 @@
 -- Every pair before pair i passes the test of two.
 use Rattle.std.proofs.Common.{rules, tests}
-use Rattle.weighing.proofs.RangeLaws.{all_over_range}
+use Rattle.loops.specs.RangeLaws.{all_over_range}
 use Rattle.weighing.proofs.pair_rises.Goals as goal
 
 pub returns : goal.returns

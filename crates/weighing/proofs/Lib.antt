@@ -1,2 +1,0 @@
--- What the proofs of several functions share.
-pub mod RangeLaws
