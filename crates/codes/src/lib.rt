@@ -1,10 +1,11 @@
-// Refusals and verdicts as results of functions for C.
+// Refusals, verdicts and replies as results of functions for C.
 #![tactic(auto)]
 
 ghost use Rattle.std.specs.Prelude.{◌≡◌, pos};
-ghost use Rattle.codes.specs.Exports.{told, told_verdict, code_of};
+ghost use Rattle.limits.specs.Refusals.{refusal_in, size_in};
+ghost use Rattle.codes.specs.Exports.{told, code_of};
 
-use judging::Verdict;
+use limits::Refusal;
 
 // A refusal's number as a result of C: up to 31 as it is. Any other, of which there is none, would be told as 31 and never as
 // success.
@@ -18,12 +19,29 @@ pub fn number(refusal: u32) -> i32
 }
 
 // A verdict as a number: 0 for yes, -1 for no, else the refusal.
-pub fn code(verdict: Verdict) -> i32
-    ensures { result ≡ code_of (told_verdict verdict) }
+pub fn code(verdict: Result<bool, Refusal>) -> i32
+    ensures { result ≡ code_of verdict }
 {
     match verdict {
-        Verdict::Yes => 0,
-        Verdict::No => -1,
-        Verdict::Refused(refusal) => number(refusal),
+        Ok(true) => 0,
+        Ok(false) => -1,
+        Err(refusal) => number(u32::from(refusal)),
+    }
+}
+
+// A reply as a number, 0 or the refusal, and the length written beside it: 0 for a refusal.
+pub fn tell(reply: Result<usize, Refusal>, written: &mut usize) -> i32
+    ensures number { result ≡ pos (refusal_in reply) }
+    ensures length { written.new ≡ size_in reply }
+{
+    match reply {
+        Ok(length) => {
+            *written = length;
+            0
+        }
+        Err(refusal) => {
+            *written = 0;
+            number(u32::from(refusal))
+        }
     }
 }
