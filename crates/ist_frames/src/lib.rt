@@ -6,15 +6,14 @@ ghost use Rattle.answering.specs.Answering.{Answered};
 ghost use Rattle.judging.specs.Verdicts.{TreeJudged, AnswerJudged};
 ghost use Rattle.codes.specs.Exports.{Said, Replied};
 
-use codes::{code, number};
+use codes::{code, tell};
 
 // Answers a job frame into the area.
 pub fn answer(job: &[u8], area: &mut [u8], written: &mut usize) -> i32
     ensures { Replied (λ reply. Answered job.now area.old reply area.new) result written.new }
 {
     let reply = answering::answer(job, area);
-    *written = reply.length;
-    number(reply.refusal)
+    tell(reply, written)
 }
 
 // Is the marked tree of a job frame cheapest?

@@ -5,7 +5,7 @@
 ghost use Rattle.stepping.specs.Stepping.{SheetMade, SheetApplied};
 ghost use Rattle.codes.specs.Exports.{Replied};
 
-use codes::number;
+use codes::tell;
 
 // Writes the sheet of the new costs of a job frame into the area.
 pub fn sheet(job: &[u8], costs: &[u8], area: &mut [u8], written: &mut usize) -> i32
@@ -13,8 +13,7 @@ pub fn sheet(job: &[u8], costs: &[u8], area: &mut [u8], written: &mut usize) -> 
         written.new }
 {
     let made = stepping::sheet_of_costs(job, costs, area);
-    *written = made.length;
-    number(made.refusal)
+    tell(made, written)
 }
 
 // Writes the costs that a sheet leads to from those of a job frame into the area.
@@ -23,6 +22,5 @@ pub fn apply_sheet(job: &[u8], sheet: &[u8], area: &mut [u8], written: &mut usiz
         written.new }
 {
     let applied = stepping::costs_of_sheet(job, sheet, area);
-    *written = applied.length;
-    number(applied.refusal)
+    tell(applied, written)
 }

@@ -6,7 +6,7 @@ ghost use Rattle.accept.specs.ListJobs.{list_job};
 ghost use Rattle.listed.specs.ListServices.{ListWritten, ListAnswered};
 ghost use Rattle.codes.specs.Exports.{Of, Replied};
 
-use codes::number;
+use codes::tell;
 use records::ListCopy;
 
 pub fn answer_copy(stations: u32, list: ListCopy, area: &mut [u8], written: &mut usize) -> i32
@@ -14,8 +14,7 @@ pub fn answer_copy(stations: u32, list: ListCopy, area: &mut [u8], written: &mut
         written.new) }
 {
     let reply = writing::answer_links(stations, list, area);
-    *written = reply.length;
-    number(reply.refusal)
+    tell(reply, written)
 }
 
 pub fn write_copy(stations: u32, list: ListCopy, area: &mut [u8], written: &mut usize) -> i32
@@ -23,6 +22,5 @@ pub fn write_copy(stations: u32, list: ListCopy, area: &mut [u8], written: &mut 
         written.new) }
 {
     let frame = writing::write_links(stations, list, area);
-    *written = frame.length;
-    number(frame.refusal)
+    tell(frame, written)
 }

@@ -1,11 +1,12 @@
 -- `ist_sheets::apply_sheet` meets its contract: the reply's number and length. Assumes nothing.
-use native.Mathlib.Omega.{arith}
-use mathlib.Core.Path.{refl}
-use Rattle.codes.specs.ExportLaws.{number_told, served_most, first_with_most}
+use Rattle.codes.specs.ExportLaws.{reply_read}
 use Rattle.ist_sheets.proofs.apply_sheet.Goals as goal
 
 pub returns : goal.returns
 returns c =
-    let told = c.costs_of_sheet-applied.ensures in
-    let most = served_most told.served (first_with_most told.first (omega arith)) in
-    record { reply = c.costs_of_sheet-applied.result; number = number_told _ _ most c.number.ensures; length = refl; told = told }
+    record {
+      reply = c.costs_of_sheet-applied.result;
+      number = reply_read _ _ c.tell.ensures.number;
+      length = c.tell.ensures.length;
+      told = c.costs_of_sheet-applied.ensures;
+    }

@@ -1,7 +1,6 @@
 -- `ist_writers::answer_copy` meets its contract: the reply's number and length. Assumes nothing.
-use mathlib.Core.Path.{refl}
 use Rattle.listed.proofs.LentLaws.{lent_as, lent_answered}
-use Rattle.codes.specs.ExportLaws.{number_told, list_answered_most}
+use Rattle.codes.specs.ExportLaws.{reply_read}
 use Rattle.ist_writers.proofs.answer_copy.Goals as goal
 
 pub returns : goal.returns
@@ -10,7 +9,7 @@ returns c = λ ys copy.
     let told = lent_answered a.stations ys _ _ _ (lent_as a.stations ys _ _ copy c.answer_links-reply.ensures) in
     record {
       reply = c.answer_links-reply.result;
-      number = number_told _ _ (list_answered_most _ _ _ _ told) c.number.ensures;
-      length = refl;
+      number = reply_read _ _ c.tell.ensures.number;
+      length = c.tell.ensures.length;
       told = told;
     }
