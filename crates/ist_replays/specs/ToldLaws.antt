@@ -1,6 +1,7 @@
 -- No number of packets is taken for "never". Assumes nothing.
 use Rattle.std.specs.Prelude.{ℕ, ◌^◌, ◌<◌, ◌≡◌, refl, List, Option, Some, None, Result, Ok, Err, length}
 use Rattle.std.proofs.Common.{arith, sym, ap, ◌∙◌}
+use Rattle.std.specs.Option.{unwrap_or}
 use Rattle.limits.specs.declared.Refusal.{Refusal}
 use Rattle.replaying.specs.declared.Replayed.{Replayed}
 use Rattle.replaying.specs.Replayed.{packets_told, LogReplayed}
@@ -18,3 +19,7 @@ never_told s f area (Ok x) after l p e = of x.first refl
     of (Some k) q =
         let same : k ≡ never_code = sym (ap first_code q) ∙ e in
         absurd (omega (arith, same, told_few s f area (Ok x) after p k (ap packets_told q)))
+
+pub never_or : (o : Option ℕ) → unwrap_or o never_code ≡ first_code o
+never_or (Some k) = refl
+never_or None = refl
