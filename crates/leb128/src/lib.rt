@@ -11,30 +11,39 @@ pub struct Number {
     pub next: usize,
 }
 
-// The number of at most `most` bytes that stands at `at`; none if it is cut off, too long or not in shortest form.
+// The number of at most `most` bytes that stands at `at`; none if it is cut off, too long or not in shortest form. The first byte is
+// read before the loop: most numbers have no other.
 fn read(bytes: &[u8], at: usize, most: u32) -> Option<Number>
     requires { most ≤ 4 }
     ensures { result ≡ read_at most bytes.now at }
 {
-    if most == 0 {
-        return None;
-    }
-    if bytes.len() <= at {
+    if most == 0 || bytes.len() <= at {
         return None;
     }
     let first = bytes[at] as u32;
-    let next = at + 1;
+    let mut next = at + 1;
     if first < 128 {
         return Some(Number { value: first, next });
     }
-    let rest = read(bytes, next, most - 1)?;
-    if rest.value == 0 {
-        return None;
+    let mut value = first - 128;
+    let mut weight: u32 = 128;
+    for _ in 1..most {
+        if bytes.len() <= next {
+            return None;
+        }
+        let byte = bytes[next] as u32;
+        value += weight * byte;
+        next += 1;
+        if byte < 128 {
+            if byte == 0 {
+                return None;
+            }
+            return Some(Number { value, next });
+        }
+        weight *= 128;
+        value -= weight;
     }
-    Some(Number {
-        value: first - 128 + 128 * rest.value,
-        next: rest.next,
-    })
+    None
 }
 
 // The number of at most three bytes that stands at `at`.
@@ -58,16 +67,25 @@ fn known(bytes: &[u8], at: usize, most: u32) -> Number
     ensures { read_at most bytes.now at ≡ Some result }
 {
     let first = bytes[at] as u32;
+    let mut next = at + 1;
     if first < 128 {
-        return Number {
-            value: first,
-            next: at + 1,
-        };
+        return Number { value: first, next };
     }
-    let behind = known(bytes, at + 1, most - 1);
+    let mut value = first - 128;
+    let mut weight: u32 = 128;
+    for _ in 1..most - 1 {
+        value += weight * bytes[next] as u32;
+        next += 1;
+        weight *= 128;
+        // So the byte was below 128.
+        if value < weight {
+            return Number { value, next };
+        }
+        value -= weight;
+    }
     Number {
-        value: first - 128 + 128 * behind.value,
-        next: behind.next,
+        value: value + weight * bytes[next] as u32,
+        next: next + 1,
     }
 }
 

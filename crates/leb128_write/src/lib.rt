@@ -10,13 +10,14 @@ ghost use Rattle.number.specs.Number.{encode};
 fn size(x: u32, most: u32) -> usize
     ensures { result ≡ length (encode most x) }
 {
-    if most == 0 {
-        return 0;
+    let mut rest = x;
+    for k in 0..most {
+        if rest < 128 {
+            return k as usize + 1;
+        }
+        rest /= 128;
     }
-    if x < 128 {
-        return 1;
-    }
-    1 + size(x / 128, most - 1)
+    most as usize
 }
 
 // How many bytes `x` takes, of at most three.
@@ -39,15 +40,18 @@ fn write(area: &mut [u8], at: usize, x: u32, most: u32) -> usize
     ensures next { result ≡ at + length (encode most x) }
     ensures area { area.new ≡ sets area.old at (encode most x) }
 {
-    if most == 0 {
-        return at;
+    let mut rest = x;
+    let mut next = at;
+    for _ in 0..most {
+        if rest < 128 {
+            area[next] = rest as u8;
+            return next + 1;
+        }
+        area[next] = (rest % 128 + 128) as u8;
+        rest /= 128;
+        next += 1;
     }
-    if x < 128 {
-        area[at] = x as u8;
-        return at + 1;
-    }
-    area[at] = (x % 128 + 128) as u8;
-    write(area, at + 1, x / 128, most - 1)
+    next
 }
 
 // Puts `x` at `at` in at most three bytes.
