@@ -1,24 +1,23 @@
 -- A lent list: what the services say of what is given of it, its length, the word on its numbers and the copy of its first 256
 -- links, they say of the list. Assumes nothing.
-use Rattle.std.specs.Prelude.{ℕ, ◌≡◌, Bool, List}
+use Rattle.std.specs.Prelude.{ℕ, ◌≡◌, Bool, List, Result, Ok, Err}
 use Rattle.std.proofs.Common.{arith, sym, ap, subst, ◌∙◌}
 use Rattle.loops.specs.TestLaws.{clash}
+use Rattle.limits.specs.declared.Refusal.{Refusal}
+use Rattle.limits.specs.Refusals.{refusal_in}
 use Rattle.number.specs.Number.{Bytes}
 use Rattle.records.specs.declared.Link.{Link}
 use Rattle.records.specs.declared.ListCopy.{ListCopy}
 use Rattle.records.specs.Records.{list_copy}
 use Rattle.frame.specs.Job.{Job, job_numbers, job_frame}
-use Rattle.frame.specs.Questions.{job_of}
+use Rattle.frame.specs.Questions.{job_of, refusal}
 use Rattle.frame.specs.Answers.{answer_of}
 use Rattle.frame.specs.AnswerMeaning.{answer_frame}
 use Rattle.frame.specs.Services.{Place, nowhere, written}
-use Rattle.codec.specs.declared.Reply.{Reply}
 use Rattle.accept.specs.ListJobs.{list_job}
 use Rattle.accept_lists.specs.Given.{Given}
 use Rattle.accept_lists.specs.ListJobLaws.{lent}
 use Rattle.frame.proofs.Accepted.{numbers_bytes}
-use Rattle.judging.specs.declared.Verdict.{Verdict}
-use Rattle.judging.specs.declared.Verdict.TheVariants.{Refused}
 use Rattle.judging.specs.Verdicts.{VerdictOn}
 use Rattle.judging.proofs.VerdictLaws.{refused_judged}
 use Rattle.answering.specs.Answering.{Untouched}
@@ -39,24 +38,35 @@ pub lent_as :
     Lent nodes ys Early Said
 lent_as nodes ys Early Said copy g = subst (λ (c : ListCopy). Given nodes c Early Said) copy g
 
+-- A verdict that tells the number of the frame's refusal is what it should be.
+number_judged :
+    (s : List ℕ) →
+    Bytes s →
+    (word : Bool) (P : Type 0) (r : Result Bool Refusal) →
+    refusal s ≡ 2 →
+    refusal_in r ≡ 2 →
+    VerdictOn s word P r
+number_judged s b word P (Ok w) two e = absurd (omega (arith, e))
+number_judged s b word P (Err q) two e = refused_judged s b word P q (two ∙ sym e)
+
 module _ (nodes : ℕ) (ys : List Link) where
   pub lent_judged :
-      (word : List ℕ → Bool) (Claim : List ℕ → Type 0) (r : Verdict) →
-      Lent nodes ys (λ n. r ≡ Refused n) (λ j. ListJudged j (λ s. VerdictOn s (word s) (Claim s)) r) →
+      (word : List ℕ → Bool) (Claim : List ℕ → Type 0) (r : Result Bool Refusal) →
+      Lent nodes ys (λ n. refusal_in r ≡ n) (λ j. ListJudged j (λ s. VerdictOn s (word s) (Claim s)) r) →
       ListJudged (list_job nodes ys) (λ s. VerdictOn s (word s) (Claim s)) r
   lent_judged word Claim r =
-      lent nodes ys (λ n. r ≡ Refused n) (λ j. ListJudged j (λ s. VerdictOn s (word s) (Claim s)) r)
+      lent nodes ys (λ n. refusal_in r ≡ n) (λ j. ListJudged j (λ s. VerdictOn s (word s) (Claim s)) r)
       (λ f e. record { large = λ _. e; said = λ y. clash y f })
       (λ y two e.
       let s = job_frame (list_job nodes ys) in
       record {
         large = λ f. clash y f;
         said = λ _.
-            refused_judged s (numbers_bytes (job_numbers (list_job nodes ys))) (word s) (Claim s) 2 two (λ z. omega (arith, z)) r e;
+            number_judged s (numbers_bytes (job_numbers (list_job nodes ys))) (word s) (Claim s) r two e;
       })
 
   pub lent_answered :
-      (area : List ℕ) (r : Reply) (after : List ℕ) →
+      (area : List ℕ) (r : Result ℕ Refusal) (after : List ℕ) →
       Lent nodes ys (λ n. Untouched n area r after) (λ j. ListAnswered j area r after) →
       ListAnswered (list_job nodes ys) area r after
   lent_answered area r after =
@@ -73,7 +83,7 @@ module _ (nodes : ℕ) (ys : List Link) where
       })
 
   pub lent_written :
-      (area : List ℕ) (r : Reply) (after : List ℕ) →
+      (area : List ℕ) (r : Result ℕ Refusal) (after : List ℕ) →
       Lent nodes ys (λ n. Untouched n area r after) (λ j. ListWritten j area r after) →
       ListWritten (list_job nodes ys) area r after
   lent_written area r after =

@@ -4,8 +4,8 @@
 #![tactic(auto)]
 
 ghost use Rattle.std.specs.Prelude.{◌≡◌};
+ghost use Rattle.limits.specs.Refusals.{refusal_in};
 ghost use Rattle.judging.specs.Verdicts.{TreeJudged, AnswerJudged};
-ghost use Rattle.judging.specs.declared.Verdict.TheVariants.{Refused};
 ghost use Rattle.frame.specs.Services.{nowhere};
 ghost use Rattle.codec.specs.Numbers.{place_of};
 ghost use Rattle.accept_lists.specs.Given.{Given};
@@ -15,12 +15,13 @@ use accept_lists::accept_links;
 use codec::Part;
 use finding::locate_cost_held;
 use ids::Edge;
-use judging::{Verdict, judge_answer_held, judge_held};
+use judging::{judge_answer_held, judge_held};
+use limits::Refusal;
 use records::ListCopy;
 
 // Is the marked tree of a list of records cheapest?
-pub fn judge_links(nodes: u32, list: ListCopy) -> Verdict
-    ensures { Given nodes list (λ n. result ≡ Refused n) (λ j. ListJudged j TreeJudged result) }
+pub fn judge_links(nodes: u32, list: ListCopy) -> Result<bool, Refusal>
+    ensures { Given nodes list (λ n. refusal_in result ≡ n) (λ j. ListJudged j TreeJudged result) }
 {
     let mut end1 = [0u32; 256];
     let mut end2 = [0u32; 256];
@@ -28,15 +29,15 @@ pub fn judge_links(nodes: u32, list: ListCopy) -> Verdict
     let mut mark = [0u32; 256];
     let mut ts = [0u32; 256];
     let mut mask = [0u64; 64];
-    let header = accept_links(
+    let accepted = accept_links(
         nodes, list, &mut end1, &mut end2, &mut cost, &mut mark, &mut ts, &mut mask,
     );
-    judge_held(header, &end1, &end2, &cost, &mark, &ts, &mask)
+    judge_held(accepted, &end1, &end2, &cost, &mark, &ts, &mask)
 }
 
 // Does a frame hold an answer to a list of records?
-pub fn judge_answer_links(nodes: u32, list: ListCopy, offered: &[u8]) -> Verdict
-    ensures { Given nodes list (λ n. result ≡ Refused n) (λ j. ListJudged j (λ s. AnswerJudged s offered.now) result) }
+pub fn judge_answer_links(nodes: u32, list: ListCopy, offered: &[u8]) -> Result<bool, Refusal>
+    ensures { Given nodes list (λ n. refusal_in result ≡ n) (λ j. ListJudged j (λ s. AnswerJudged s offered.now) result) }
 {
     let mut end1 = [0u32; 256];
     let mut end2 = [0u32; 256];
@@ -44,10 +45,10 @@ pub fn judge_answer_links(nodes: u32, list: ListCopy, offered: &[u8]) -> Verdict
     let mut mark = [0u32; 256];
     let mut ts = [0u32; 256];
     let mut mask = [0u64; 64];
-    let header = accept_links(
+    let accepted = accept_links(
         nodes, list, &mut end1, &mut end2, &mut cost, &mut mark, &mut ts, &mut mask,
     );
-    judge_answer_held(header, &end1, &end2, &cost, &mark, &ts, &mask, offered)
+    judge_answer_held(accepted, &end1, &end2, &cost, &mark, &ts, &mask, offered)
 }
 
 // Where a link's new cost stands in the frame offered as an answer to a list of records; nowhere, of length 0, if the list is
@@ -61,10 +62,10 @@ pub fn locate_cost_links(nodes: u32, list: ListCopy, offered: &[u8], edge: Edge)
     let mut mark = [0u32; 256];
     let mut ts = [0u32; 256];
     let mut mask = [0u64; 64];
-    let header = accept_links(
+    let accepted = accept_links(
         nodes, list, &mut end1, &mut end2, &mut cost, &mut mark, &mut ts, &mut mask,
     );
     locate_cost_held(
-        header, &end1, &end2, &cost, &mark, &ts, &mask, offered, edge,
+        accepted, &end1, &end2, &cost, &mark, &ts, &mask, offered, edge,
     )
 }

@@ -8,11 +8,11 @@ ghost use Rattle.listed.specs.ListServices.{ListWritten, ListAnswered};
 
 use accept_lists::accept_links;
 use answering::answer_held;
-use codec::Reply;
+use limits::Refusal;
 use records::ListCopy;
 
-// Writes the job frame of a list of records into the area, or refuses it and writes nothing.
-pub fn write_links(nodes: u32, list: ListCopy, area: &mut [u8]) -> Reply
+// Writes the job frame of a list of records into the area and gives its length, or refuses it and writes nothing.
+pub fn write_links(nodes: u32, list: ListCopy, area: &mut [u8]) -> Result<usize, Refusal>
     ensures { Given nodes list (λ n. Untouched n area.old result area.new)
         (λ j. ListWritten j area.old result area.new) }
 {
@@ -22,12 +22,13 @@ pub fn write_links(nodes: u32, list: ListCopy, area: &mut [u8]) -> Reply
     let mut mark = [0u32; 256];
     let mut ts = [0u32; 256];
     let mut mask = [0u64; 64];
-    let header = accept_links(
+    let accepted = accept_links(
         nodes, list, &mut end1, &mut end2, &mut cost, &mut mark, &mut ts, &mut mask,
     );
+    let header = accepted?;
     let edges = header.edges as usize;
     job_write::write_job(
-        header.refusal,
+        Ok(()),
         header.nodes,
         edges,
         &end1,
@@ -39,8 +40,8 @@ pub fn write_links(nodes: u32, list: ListCopy, area: &mut [u8]) -> Reply
     )
 }
 
-// Writes the answer to a list of records into the area, or refuses it and writes nothing.
-pub fn answer_links(nodes: u32, list: ListCopy, area: &mut [u8]) -> Reply
+// Writes the answer to a list of records into the area and gives its length, or refuses it and writes nothing.
+pub fn answer_links(nodes: u32, list: ListCopy, area: &mut [u8]) -> Result<usize, Refusal>
     ensures { Given nodes list (λ n. Untouched n area.old result area.new)
         (λ j. ListAnswered j area.old result area.new) }
 {
@@ -50,10 +51,10 @@ pub fn answer_links(nodes: u32, list: ListCopy, area: &mut [u8]) -> Reply
     let mut mark = [0u32; 256];
     let mut ts = [0u32; 256];
     let mut mask = [0u64; 64];
-    let header = accept_links(
+    let accepted = accept_links(
         nodes, list, &mut end1, &mut end2, &mut cost, &mut mark, &mut ts, &mut mask,
     );
     answer_held(
-        header, &mut end1, &mut end2, &mut cost, &mut mark, &ts, &mask, area,
+        accepted, &mut end1, &mut end2, &mut cost, &mut mark, &ts, &mask, area,
     )
 }

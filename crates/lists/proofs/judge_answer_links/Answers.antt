@@ -4,9 +4,9 @@ use Rattle.listed.proofs.ListServiceLaws.{given_judged}
 use Rattle.lists.proofs.judge_answer_links.Goals as goal
 
 pub judge_answer_held-requires : goal.judge_answer_held-requires
-judge_answer_held-requires c = c.accept_links-header.ensures.job
+judge_answer_held-requires c = c.accept_links-accepted.ensures.job
 
 pub returns : goal.returns
 returns c =
-    given_judged c.accept_links-header.ensures.list (λ s. AnswerJudged s c.args.offered.now) c.judge_answer_held.result
+    given_judged c.accept_links-accepted.ensures.list (λ s. AnswerJudged s c.args.offered.now) c.judge_answer_held.result
     c.judge_answer_held.ensures.judged c.judge_answer_held.ensures.refused

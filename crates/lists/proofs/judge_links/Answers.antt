@@ -4,9 +4,9 @@ use Rattle.listed.proofs.ListServiceLaws.{given_judged}
 use Rattle.lists.proofs.judge_links.Goals as goal
 
 pub judge_held-requires : goal.judge_held-requires
-judge_held-requires c = c.accept_links-header.ensures.job
+judge_held-requires c = c.accept_links-accepted.ensures.job
 
 pub returns : goal.returns
 returns c =
-    given_judged c.accept_links-header.ensures.list TreeJudged c.judge_held.result c.judge_held.ensures.judged
+    given_judged c.accept_links-accepted.ensures.list TreeJudged c.judge_held.result c.judge_held.ensures.judged
     c.judge_held.ensures.refused

@@ -4,9 +4,9 @@ use Rattle.listed.proofs.ListServiceLaws.{given_located}
 use Rattle.lists.proofs.locate_cost_links.Goals as goal
 
 pub locate_cost_held-requires : goal.locate_cost_held-requires
-locate_cost_held-requires c = c.accept_links-header.ensures.job
+locate_cost_held-requires c = c.accept_links-accepted.ensures.job
 
 pub returns : goal.returns
 returns c =
-    given_located c.accept_links-header.ensures.list c.args.offered.now c.args.edge.0 (place_of c.locate_cost_held.result)
+    given_located c.accept_links-accepted.ensures.list c.args.offered.now c.args.edge.0 (place_of c.locate_cost_held.result)
     c.locate_cost_held.ensures.located c.locate_cost_held.ensures.refused

@@ -3,9 +3,9 @@ use Rattle.listed.proofs.ListServiceLaws.{given_answered}
 use Rattle.writing.proofs.answer_links.Goals as goal
 
 pub answer_held-requires : goal.answer_held-requires
-answer_held-requires c = c.accept_links-header.ensures.job
+answer_held-requires c = c.accept_links-accepted.ensures.job
 
 pub returns : goal.returns
 returns c =
-    given_answered c.accept_links-header.ensures.list c.args.area.now c.answer_held.result c.answer_held.new.area
+    given_answered c.accept_links-accepted.ensures.list c.args.area.now c.answer_held.result c.answer_held.new.area
     c.answer_held.ensures.answered c.answer_held.ensures.refused
