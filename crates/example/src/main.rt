@@ -4,38 +4,40 @@
 #![tactic(auto)]
 
 use ids::Edge;
-use judging::Verdict;
-use leb128::Number;
-use limits::ANSWER_MOST;
+use limits::{ANSWER_MOST, Refusal};
+use reading::{AnswerRead, JobRead};
 use std::io;
 
-fn print_number(rt: &impl Print, name: &str, number: u32) -> io::Result<()> {
-    print!(rt; "{name}{number}")
-}
-
-fn print_verdict(rt: &impl Print, name: &str, verdict: Verdict) -> io::Result<()> {
+fn print_verdict(rt: &impl Print, name: &str, verdict: Result<bool, Refusal>) -> io::Result<()> {
     match verdict {
-        Verdict::Yes => println!(rt; "{name}yes"),
-        Verdict::No => println!(rt; "{name}no"),
-        Verdict::Refused(number) => println!(rt; "{name}refused {number}"),
+        Ok(true) => println!(rt; "{name}yes"),
+        Ok(false) => println!(rt; "{name}no"),
+        Err(refusal) => println!(rt; "{name}refused {refusal}"),
     }
-}
-
-// A link's old and new cost.
-fn print_costs(rt: &impl Print, old: u32, new: u32) -> io::Result<()> {
-    println!(rt; "cost {old} becomes {new}")
 }
 
 // One new cost, read from the answer frame's own bytes: none are found if there is no such link. A link's number has a type of
 // its own, so that no station is taken for it.
 fn print_cost(rt: &impl Print, frame: &[u8], answer: &[u8], edge: Edge) -> io::Result<()> {
     let part = finding::find_cost(frame, answer, edge);
-    let number = leb128::read_short(part, 0);
-    let Number::Value(cost, _) = number else {
+    let Some(number) = leb128::read_short(part, 0) else {
         return Ok(());
     };
     let link = edge.0;
+    let cost = number.value;
     println!(rt; "link {link} costs {cost}")
+}
+
+// The steps, and the old and the new cost of each of the three links.
+fn print_answer(rt: &impl Print, job: &JobRead, contents: &AnswerRead) -> io::Result<()> {
+    let steps = contents.steps;
+    println!(rt; "steps {steps}")?;
+    for e in 0..3 {
+        let old = job.links[e].cost;
+        let new = contents.costs[e];
+        println!(rt; "cost {old} becomes {new}")?;
+    }
+    Ok(())
 }
 
 // Judges the answer, reads its contents, and prints them.
@@ -45,14 +47,16 @@ fn show(rt: &impl Print, frame: &[u8], answer: &[u8]) -> io::Result<()> {
         "answer proved best: ",
         judging::judge_answer(frame, answer),
     )?;
-    let job = reading::read_job(frame);
-    let links = job.links;
-    let contents = reading::read_answer(frame, answer);
-    print_number(rt, "steps ", contents.steps)?;
-    println!(rt)?;
-    print_costs(rt, links[0].cost, contents.costs[0])?;
-    print_costs(rt, links[1].cost, contents.costs[1])?;
-    print_costs(rt, links[2].cost, contents.costs[2])?;
+    let job = match reading::read_job(frame) {
+        Ok(job) => job,
+        Err(refusal) => return println!(rt; "refused {refusal}"),
+    };
+    let contents = match reading::read_answer(frame, answer) {
+        Ok(Some(contents)) => contents,
+        Ok(None) => return println!(rt; "no answer"),
+        Err(refusal) => return println!(rt; "refused {refusal}"),
+    };
+    print_answer(rt, &job, &contents)?;
     print_cost(rt, frame, answer, Edge(2))
 }
 
@@ -62,12 +66,8 @@ fn main(rt: HostRuntime) -> io::Result<()> {
     print_verdict(&rt, "marked tree cheapest: ", judging::judge(frame))?;
     // long enough for every answer
     let mut area = [0u8; ANSWER_MOST];
-    let reply = answering::answer(frame, &mut area);
-    let refusal = reply.refusal;
-    if refusal != 0 {
-        print_number(&rt, "refused ", refusal)?;
-        return println!(rt);
+    match answering::answer(frame, &mut area) {
+        Ok(length) => show(&rt, frame, &area[..length]),
+        Err(refusal) => println!(rt; "refused {refusal}"),
     }
-    let length = reply.length;
-    show(&rt, frame, &area[..length])
 }

@@ -4,10 +4,9 @@
 #![tactic(auto)]
 
 use ids::Edge;
-use judging::Verdict;
-use leb128::Number;
+use limits::Refusal;
+use reading::AnswerRead;
 use records::{Link, ListCopy};
-use replaying::When;
 use std::io;
 
 fn print_byte(rt: &impl Print, byte: u8) -> io::Result<()> {
@@ -15,8 +14,8 @@ fn print_byte(rt: &impl Print, byte: u8) -> io::Result<()> {
 }
 
 fn print_bytes(rt: &impl Print, bytes: &[u8]) -> io::Result<()> {
-    for i in 0..bytes.len() {
-        print_byte(rt, bytes[i])?;
+    for byte in bytes {
+        print_byte(rt, *byte)?;
     }
     println!(rt)
 }
@@ -25,14 +24,18 @@ fn print_number(rt: &impl Print, name: &str, number: u32) -> io::Result<()> {
     print!(rt; "{name}{number}")
 }
 
-fn print_reply(rt: &impl Print, name: &str, refusal: u32, length: usize) -> io::Result<()> {
-    print!(rt; "{name}: refusal {refusal}, length {length}")
+// The number of a refusal, 0 if there is none, and the length written.
+fn print_reply(rt: &impl Print, name: &str, reply: Result<usize, Refusal>) -> io::Result<()> {
+    match reply {
+        Ok(length) => print!(rt; "{name}: refusal 0, length {length}"),
+        Err(refusal) => print!(rt; "{name}: refusal {refusal}, length 0"),
+    }
 }
 
 // Answers a frame into an area of bytes AA, and shows the number and the whole area.
 fn show_answer(rt: &impl Print, name: &str, frame: &[u8], area: &mut [u8]) -> io::Result<()> {
     let reply = answering::answer(frame, area);
-    print_reply(rt, name, reply.refusal, reply.length)?;
+    print_reply(rt, name, reply)?;
     print!(rt; ", area")?;
     print_bytes(rt, area)
 }
@@ -43,11 +46,11 @@ fn show_refusal(rt: &impl Print, name: &str, frame: &[u8]) -> io::Result<()> {
     show_answer(rt, name, frame, &mut area)
 }
 
-fn show_verdict(rt: &impl Print, name: &str, verdict: Verdict) -> io::Result<()> {
+fn show_verdict(rt: &impl Print, name: &str, verdict: Result<bool, Refusal>) -> io::Result<()> {
     match verdict {
-        Verdict::Yes => println!(rt; "{name}: yes"),
-        Verdict::No => println!(rt; "{name}: no"),
-        Verdict::Refused(number) => println!(rt; "{name}: refusal {number}"),
+        Ok(true) => println!(rt; "{name}: yes"),
+        Ok(false) => println!(rt; "{name}: no"),
+        Err(refusal) => println!(rt; "{name}: refusal {refusal}"),
     }
 }
 
@@ -56,37 +59,34 @@ fn show_part(rt: &impl Print, name: &str, part: &[u8]) -> io::Result<()> {
     print_bytes(rt, part)
 }
 
-// A link's four numbers, if it is there.
-fn print_link(rt: &impl Print, there: bool, link: Link) -> io::Result<()> {
-    if there {
-        print_number(rt, " (", link.end1)?;
-        print_number(rt, " ", link.end2)?;
-        print_number(rt, " ", link.cost)?;
-        print_number(rt, " ", link.mark)?;
-        print!(rt; ")")?;
-    }
-    Ok(())
+// A link's four numbers.
+fn print_link(rt: &impl Print, link: Link) -> io::Result<()> {
+    print_number(rt, " (", link.end1)?;
+    print_number(rt, " ", link.end2)?;
+    print_number(rt, " ", link.cost)?;
+    print_number(rt, " ", link.mark)?;
+    print!(rt; ")")
 }
 
-fn print_links(rt: &impl Print, count: usize, links: [Link; 256]) -> io::Result<()> {
-    let mut i: usize = 0;
-    while i < 256 {
-        print_link(rt, i < count, links[i])?;
-        i += 1;
+// The first so many links.
+fn print_links(rt: &impl Print, count: usize, links: &[Link; 256]) -> io::Result<()> {
+    for link in links.iter().take(count) {
+        print_link(rt, *link)?;
     }
     println!(rt)
 }
 
 // Reads a frame into records, and shows them.
 fn show_read(rt: &impl Print, name: &str, frame: &[u8]) -> io::Result<()> {
-    let job = reading::read_job(frame);
-    print!(rt; "{name}")?;
-    print_number(rt, ": refusal ", job.refusal)?;
-    print_number(rt, ", stations ", job.nodes)?;
-    let count = job.count;
-    print!(rt; ", links {count}")?;
-    let links = job.links;
-    print_links(rt, count, links)
+    match reading::read_job(frame) {
+        Ok(job) => {
+            let nodes = job.nodes;
+            let count = job.count;
+            print!(rt; "{name}: refusal 0, stations {nodes}, links {count}")?;
+            print_links(rt, count, &job.links)
+        }
+        Err(refusal) => println!(rt; "{name}: refusal {refusal}, stations 0, links 0"),
+    }
 }
 
 fn print_pair(rt: &impl Print, tree: u32, spare: u32) -> io::Result<()> {
@@ -94,10 +94,20 @@ fn print_pair(rt: &impl Print, tree: u32, spare: u32) -> io::Result<()> {
     print_number(rt, " ", spare)
 }
 
-// Reads an answer frame into arrays, and shows what of it stands in the first places.
+// Reads an answer frame into arrays, and shows what of it stands in the first places: zeros if it is no answer.
 fn show_contents(rt: &impl Print, name: &str, frame: &[u8], offered: &[u8]) -> io::Result<()> {
-    let answer = reading::read_answer(frame, offered);
-    show_verdict(rt, name, answer.verdict)?;
+    let none = AnswerRead {
+        steps: 0,
+        costs: [0; 256],
+        count: 0,
+        pairs: [0; 128],
+    };
+    let (verdict, answer) = match reading::read_answer(frame, offered) {
+        Ok(Some(answer)) => (Ok(true), answer),
+        Ok(None) => (Ok(false), none),
+        Err(refusal) => (Err(refusal), none),
+    };
+    show_verdict(rt, name, verdict)?;
     print_number(rt, "  steps ", answer.steps)?;
     print_number(rt, ", costs ", answer.costs[0])?;
     print_number(rt, " ", answer.costs[2])?;
@@ -143,10 +153,8 @@ fn long_links() -> [Link; 256] {
         cost: 0,
         mark: 0,
     }; 256];
-    let mut e: usize = 0;
-    while e < 256 {
+    for e in 0..256 {
         links[e] = long_link(e as u32);
-        e += 1;
     }
     links
 }
@@ -154,7 +162,7 @@ fn long_links() -> [Link; 256] {
 // The first so many of them, as a list.
 fn long_list(count: usize) -> ListCopy {
     ListCopy {
-        count: count,
+        count,
         small: true,
         links: long_links(),
     }
@@ -163,23 +171,22 @@ fn long_list(count: usize) -> ListCopy {
 // Writes the longest job into an area, and shows the number and the length.
 fn write_long(rt: &impl Print, name: &str, area: &mut [u8]) -> io::Result<()> {
     let reply = writing::write_links(64, long_list(256), area);
-    print_reply(rt, name, reply.refusal, reply.length)?;
+    print_reply(rt, name, reply)?;
     println!(rt)
 }
 
 // Answers it.
 fn answer_long(rt: &impl Print, name: &str, frame: &[u8], area: &mut [u8]) -> io::Result<()> {
     let reply = answering::answer(frame, area);
-    print_reply(rt, name, reply.refusal, reply.length)?;
+    print_reply(rt, name, reply)?;
     println!(rt)
 }
 
 // The total that an answer names.
 fn show_total(rt: &impl Print, name: &str, answer: &[u8]) -> io::Result<()> {
-    let steps = leb128::read_long(answer, 0);
-    match steps {
-        Number::Value(total, _) => print_number(rt, name, total)?,
-        Number::Refused => print!(rt; "no total")?,
+    match leb128::read_long(answer, 0) {
+        Some(total) => print_number(rt, name, total.value)?,
+        None => print!(rt; "no total")?,
     }
     println!(rt)
 }
@@ -261,7 +268,7 @@ fn parts(rt: &impl Print, t1: &[u8], other: &[u8]) -> io::Result<()> {
 fn show_sheet(rt: &impl Print, name: &str, frame: &[u8], costs: &[u8]) -> io::Result<()> {
     let mut area = [170u8; 5];
     let reply = stepping::sheet_of_costs(frame, costs, &mut area);
-    print_reply(rt, name, reply.refusal, reply.length)?;
+    print_reply(rt, name, reply)?;
     print!(rt; ", area")?;
     print_bytes(rt, &area)
 }
@@ -270,7 +277,7 @@ fn show_sheet(rt: &impl Print, name: &str, frame: &[u8], costs: &[u8]) -> io::Re
 fn show_applied(rt: &impl Print, name: &str, frame: &[u8], sheet: &[u8]) -> io::Result<()> {
     let mut area = [170u8; 5];
     let reply = stepping::costs_of_sheet(frame, sheet, &mut area);
-    print_reply(rt, name, reply.refusal, reply.length)?;
+    print_reply(rt, name, reply)?;
     print!(rt; ", area")?;
     print_bytes(rt, &area)
 }
@@ -296,20 +303,22 @@ fn applied(rt: &impl Print, t1: &[u8]) -> io::Result<()> {
     show_applied(rt, "no link", b"\x01\x00", b"\x00")
 }
 
-fn print_when(rt: &impl Print, when: When) -> io::Result<()> {
-    match when {
-        When::After(count) => print!(rt; ", cheapest after {count}"),
-        When::Never => print!(rt; ", never cheapest"),
+fn print_first(rt: &impl Print, first: Option<usize>) -> io::Result<()> {
+    match first {
+        Some(count) => print!(rt; ", cheapest after {count}"),
+        None => print!(rt; ", never cheapest"),
     }
 }
 
 // Replays a log in an area of five bytes AA, and shows the number, the first number of packets and the whole area.
 fn show_replay(rt: &impl Print, name: &str, frame: &[u8], log: &[u8]) -> io::Result<()> {
     let mut area = [170u8; 5];
-    let said = replaying::replay(frame, log, &mut area);
-    print_reply(rt, name, said.refusal, said.length)?;
-    let first = said.first;
-    print_when(rt, first)?;
+    let (reply, first) = match replaying::replay(frame, log, &mut area) {
+        Ok(replayed) => (Ok(replayed.length), replayed.first),
+        Err(refusal) => (Err(refusal), None),
+    };
+    print_reply(rt, name, reply)?;
+    print_first(rt, first)?;
     print!(rt; ", area")?;
     print_bytes(rt, &area)
 }
