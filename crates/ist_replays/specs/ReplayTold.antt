@@ -15,16 +15,16 @@ first_code (Some k) = k
 first_code None = never_code
 
 -- After how many packets the tree was first cheapest; none of a refusal.
-abbrev pub first_of : Result Replayed Refusal → Option ℕ
-first_of (Ok r) = r.first
-first_of (Err q) = None
+abbrev pub first_said : Result Replayed Refusal → Option ℕ
+first_said (Ok r) = r.first
+first_said (Err q) = None
 
 -- The numbers are those of a reply which the service may give.
 pub record ReplayTold (Told : Result Replayed Refusal → Type 0) (r : ℤ) (written first : ℕ) : Type 0 where
   pub said : Result Replayed Refusal
   pub number : r ≡ pos (refusal_in said)
   pub length : written ≡ length_told said
-  pub count : first ≡ first_code (first_of said)
+  pub count : first ≡ first_code (first_said said)
   -- no number of packets is taken for "never"
-  pub never : first ≡ never_code → first_of said ≡ None
+  pub never : first ≡ never_code → first_said said ≡ None
   pub told : Told said

@@ -6,11 +6,11 @@ use Rattle.limits.specs.declared.Refusal.{Refusal}
 use Rattle.replaying.specs.declared.Replayed.{Replayed}
 use Rattle.replaying.specs.Replayed.{packets_told, LogReplayed}
 use Rattle.replaying.specs.ReplayedLaws.{told_few}
-use Rattle.ist_replays.specs.ReplayTold.{never_code, first_code, first_of}
+use Rattle.ist_replays.specs.ReplayTold.{never_code, first_code, first_said}
 
 pub never_told :
     (s f area : List ℕ) (r : Result Replayed Refusal) (after : List ℕ) → length f < 2 ^ 64 → LogReplayed s f area r after
-    → first_code (first_of r) ≡ never_code → first_of r ≡ None
+    → first_code (first_said r) ≡ never_code → first_said r ≡ None
 never_told s f area (Err q) after l p e = refl
 never_told s f area (Ok x) after l p e = of x.first refl
   where

@@ -126,22 +126,22 @@ pairs_most j k {a = a} c =
 -- What is read of a frame that is judged yes.
 module _ (s f : List ℕ) (b : Bytes s) (v : AnswerJudged s f (Ok true)) where
   -- It holds an answer that proves itself best.
-  pub held : (a : Answer) × Certified (job_of s) f a
-  held = (v.yes_means.0 refl).1
+  pub answer_there : (a : Answer) × Certified (job_of s) f a
+  answer_there = (v.yes_means.0 refl).1
 
-  pub held_read : read_answer (length (job_of s).links) f ≡ some held.0
-  held_read = layout_read held.1.layout
+  pub held_read : read_answer (length (job_of s).links) f ≡ some answer_there.0
+  held_read = layout_read answer_there.1.layout
 
-  pub held_few : length held.0.pairs ≤ 64
-  held_few = pairs_most (job_of s) (accepted s b (v.yes_means.0 refl).0) held.1
+  pub held_few : length answer_there.0.pairs ≤ 64
+  held_few = pairs_most (job_of s) (accepted s b (v.yes_means.0 refl).0) answer_there.1
 
-  pub answer_given : (g : AnswerRead) → g ≡ answer_read held.0 → AnswerGiven s f (Ok (Some g))
+  pub answer_given : (g : AnswerRead) → g ≡ answer_read answer_there.0 → AnswerGiven s f (Ok (Some g))
   answer_given g is =
       let m = length (job_of s).links in
       let k = accepted s b (v.yes_means.0 refl).0 in
-      let same : answer_of_read m g ≡ held.0 = ap (answer_of_read m) is ∙ answer_back m held.0 held.1.layout.count k.edge_limit held_few in
-      let certified : Certified (job_of s) f (answer_of_read m g) = subst (λ (w : Answer). Certified (job_of s) f w) (sym same) held.1 in
-      record { judged = v; said = (held.0, held_read, is); answer = certified; again = certified.layout.joined }
+      let same : answer_of_read m g ≡ answer_there.0 = ap (answer_of_read m) is ∙ answer_back m answer_there.0 answer_there.1.layout.count k.edge_limit held_few in
+      let certified : Certified (job_of s) f (answer_of_read m g) = subst (λ (w : Answer). Certified (job_of s) f w) (sym same) answer_there.1 in
+      record { judged = v; said = (answer_there.0, held_read, is); answer = certified; again = certified.layout.joined }
 
 -- Of any other nothing is read.
 pub answer_denied : (s f : List ℕ) → AnswerJudged s f (Ok false) → AnswerGiven s f (Ok None)

@@ -10,7 +10,7 @@ use Rattle.accept.specs.Accepting.{Asked}
 use Rattle.accept.specs.AcceptLaws.{accepted_edges}
 use Rattle.judging.specs.Verdicts.{AnswerJudged}
 use Rattle.judging.proofs.VerdictLaws.{refused_judged}
-use Rattle.reading.specs.AnswerReadLaws.{held, held_read, held_few, answer_given, answer_withheld}
+use Rattle.reading.specs.AnswerReadLaws.{answer_there, held_read, held_few, answer_given, answer_withheld}
 use Rattle.reading.proofs.read_answer.Goals as goal
 
 pub returns-in_err-counts : goal.returns-in_err-counts
@@ -35,6 +35,6 @@ returns c =
     } in
     let links = accepted_edges s c.in_ok-counts.counts c.in_ok-counts.ensures.header in
     let v : AnswerJudged s f (Ok true) = rw c.if-not-certified.false at c.in_ok-certified.ensures.judged s k in
-    let is = c.read_contents.ensures (held s f k.bytes v).0
+    let is = c.read_contents.ensures (answer_there s f k.bytes v).0
     (ap (λ m. read_answer m f) links ∙ held_read s f k.bytes v) (held_few s f k.bytes v) in
     rw is (answer_given s f k.bytes v _ refl)
