@@ -1,5 +1,5 @@
 -- Refusals are small numbers, and fit the results of functions for C. Assumes nothing.
-use Rattle.std.specs.Prelude.{ℕ, zero, suc, ◌+◌, ◌<◌, ◌≤◌, ◌≡◌, refl, Bool, true, false, Result, Ok, Err, ℤ, pos}
+use Rattle.std.specs.Prelude.{ℕ, ◌<◌, ◌≤◌, ◌≡◌, Bool, true, false, Result, Ok, Err, ℤ, pos}
 use Rattle.std.proofs.Common.{arith, ap, ◌∙◌, ⊎_elim, lt-ltb, to_z, of_z}
 use mathlib.Core.List.{List}
 use Rattle.std.specs.Int.{w32}

@@ -139,7 +139,8 @@ module _ (s f : List ℕ) (b : Bytes s) (v : AnswerJudged s f (Ok true)) where
   answer_given g is =
       let m = length (job_of s).links in
       let k = accepted s b (v.yes_means.0 refl).0 in
-      let same : answer_of_read m g ≡ answer_there.0 = ap (answer_of_read m) is ∙ answer_back m answer_there.0 answer_there.1.layout.count k.edge_limit held_few in
+      let back = answer_back m answer_there.0 answer_there.1.layout.count k.edge_limit held_few in
+      let same : answer_of_read m g ≡ answer_there.0 = ap (answer_of_read m) is ∙ back in
       let certified : Certified (job_of s) f (answer_of_read m g) = subst (λ (w : Answer). Certified (job_of s) f w) (sym same) answer_there.1 in
       record { judged = v; said = (answer_there.0, held_read, is); answer = certified; again = certified.layout.joined }
 

@@ -1,7 +1,6 @@
 -- `certify::certify` meets its contract: the frame is read, then the tests are made in turn. Assumes nothing.
 use Prim.Native.Nat.{ℕ, ◌-◌}
 use mathlib.Core.Path.{sym, ap, ◌∙◌}
-use borrow.Author.Tests.{not-true, not-false}
 use lib.Dec.{eqb}
 use Rattle.frame.specs.Arrays.{arrays}
 use Rattle.held.specs.HeldLaws.{few_links, paths_held}

@@ -1,11 +1,9 @@
 -- `reading::read_answer` meets its contract: the frame is judged, and read if it is an answer. Assumes nothing.
-use Rattle.std.specs.Prelude.{Bool, true, Ok, length}
-use Rattle.std.proofs.Common.{◌≡◌, refl, sym, ap, subst, ◌∙◌}
+use Rattle.std.specs.Prelude.{true, Ok}
+use Rattle.std.proofs.Common.{refl, sym, ap, ◌∙◌}
 use Rattle.std.proofs.lemmas.Result.{err_from_is_err_and}
-use Rattle.frame.specs.Questions.{job_of}
 use Rattle.frame.specs.Answers.{read_answer}
 use Rattle.frame.specs.Arrays.{arrays}
-use Rattle.held.specs.HeldLaws.{few_links}
 use Rattle.accept.specs.Accepting.{Asked}
 use Rattle.accept.specs.AcceptLaws.{accepted_edges}
 use Rattle.judging.specs.Verdicts.{AnswerJudged}
