@@ -3,7 +3,7 @@ use Prim.Native.Nat.{ℕ, zero, suc, ◌+◌, ◌-◌, ◌/◌, ◌%◌, ◌<◌
 use Rattle.std.proofs.Math.Decide.{ℕ_discrete}
 use Rattle.std.proofs.Math.Numerals.{add-one}
 use native.Mathlib.Omega.{arith}
-use Rattle.std.specs.Prelude.{◌≡◌, refl, Bool, true, false, List, eqb, ℤ, pos, ◌+ℤ◌, Option, Some, None, SomeIff, set, drop}
+use Rattle.std.specs.Prelude.{◌≡◌, refl, Bool, true, false, List, eqb, ℤ, pos, ◌+ℤ◌, Option, Some, None, set, drop}
 use Rattle.std.proofs.Math.Path.{sym, ap}
 use Rattle.std.proofs.Common.{◌∙◌, length-drop, drop_of_length-le, drop-cons, take_all, get_or-set_same, get_or-set_other}
 use Rattle.std.proofs.Math.Option.{some, none}
@@ -108,21 +108,15 @@ module _ (old code : ℕ) (low : old ≤ max_number) where
   unfolding in_range cost_from
   risen e l = sym (ap in_range (rises e) ∙ rw (le-leb (old + code / 2) max_number (omega arith)))
 
-  fallen_out : (code % 2 ≡ 0 → ⊥) → old < code / 2 + 1 → None ≡ in_range (cost_from (pos old +ℤ change_from code))
+  pub fallen_out : (code % 2 ≡ 0 → ⊥) → old ≤ code / 2 → None ≡ in_range (cost_from (pos old +ℤ change_from code))
   unfolding in_range cost_from change_from
   fallen_out n l = rw (ne_eqb (code % 2) 0 n, lt-ltb old (suc (code / 2)) (omega arith))
 
-  fallen_to : (code % 2 ≡ 0 → ⊥) → code / 2 + 1 ≤ old → Some (old - (code / 2 + 1)) ≡ in_range (cost_from (pos old +ℤ change_from code))
+  pub fallen : (code % 2 ≡ 0 → ⊥) → code / 2 < old → Some (old - code / 2 - 1) ≡ in_range (cost_from (pos old +ℤ change_from code))
   unfolding in_range cost_from change_from
-  fallen_to n l =
-      let same : old - suc (code / 2) ≡ old - (code / 2 + 1) = omega arith in
-      rw (ne_eqb (code % 2) 0 n, le-ltb old (suc (code / 2)) (omega arith), same, le-leb (old - (code / 2 + 1)) max_number (omega arith))
-
-  pub fallen :
-      (code % 2 ≡ 0 → ⊥) → (o : Option ℕ) → SomeIff o (code / 2 + 1 ≤ old) (old - (code / 2 + 1))
-      → o ≡ in_range (cost_from (pos old +ℤ change_from code))
-  fallen n None below = fallen_out n (omega arith)
-  fallen n (Some v) (l, q) = ap Some q ∙ fallen_to n l
+  fallen n l =
+      let same : old - suc (code / 2) ≡ old - code / 2 - 1 = omega arith in
+      rw (ne_eqb (code % 2) 0 n, le-ltb old (suc (code / 2)) (omega arith), same, le-leb (old - code / 2 - 1) max_number (omega arith))
 
 inside_some : (o : maybe.Option ℕ) (v : ℕ) → Some v ≡ in_range o → o ≡ some v
 unfolding in_range

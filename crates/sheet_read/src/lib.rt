@@ -50,7 +50,10 @@ fn moved_cost(old: u32, code: u32) -> Option<u32>
         }
         return Some(old + half);
     }
-    old.checked_sub(half + 1)
+    if old <= half {
+        return None;
+    }
+    Some(old - half - 1)
 }
 
 // Applies the moves of a sheet to the costs of the first `edges` links; false, if it is not in form or leads out of the range, and then the costs
