@@ -14,8 +14,8 @@ use Rattle.frame.specs.Job.{fields, job_frame}
 use Rattle.frame.specs.Questions.{job_of, refusal}
 use Rattle.frame.specs.Services.{written}
 use Rattle.frame.specs.AnswerMeaning.{Certified}
-use Rattle.frame.proofs.Accepted.{write_read6}
-use Rattle.number.specs.Number.{Bytes}
+use Rattle.reading.specs.declared.JobRead.{JobRead}
+use Rattle.reading.specs.JobsRead.{JobGiven}
 use Rattle.reading.specs.declared.AnswerRead.{AnswerRead}
 use Rattle.reading.specs.AnswersRead.{answer_of_read, AnswerGiven}
 use Rattle.copying.specs.declared.JobCopy.{JobCopy}
@@ -58,16 +58,21 @@ module _ (xs room : List ℕ) where
       (truth (leb (0 + length xs) (length room)))
   written_undone (suc n) u = refl
 
+-- What was read of an accepted frame is its job, and written as a frame it is the frame.
+read_again : (s : List ℕ) → refusal s ≡ 0 → (g : Result JobRead Refusal) → JobGiven s g → job_frame (job_of s) ≡ s
+read_again s z (Ok g) k = ap job_frame (sym k.job) ∙ k.again
+read_again s z (Err q) k = absurd (refusal_nonzero q (k.number ∙ z))
+
 module _ (s room after : List ℕ) where
-  pub job_done : Bytes s → (r : JobCopy) → JobCopied s room (Ok r) after → JobDone s room r after
-  job_done b r c =
+  pub job_done : (r : JobCopy) → JobCopied s room (Ok r) after → JobDone s room r after
+  job_done r c =
       let (accepted, area) = written_done (flat_map fields (job_of s).links) room (refusal s) (sym c.number) in
       record {
         accepted = accepted;
         nodes = ap (λ (r : JobCopy). r.nodes) c.said;
         count = ap (λ (r : JobCopy). r.count) c.said;
         links = c.links ∙ area;
-        again = write_read6 s b accepted;
+        again = read_again s accepted c.given.0 c.given.1;
       }
 
   pub job_undone : (q : Refusal) → JobCopied s room (Err q) after → after ≡ room
