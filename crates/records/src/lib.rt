@@ -67,10 +67,12 @@ pub fn copy_list(list: &[Link]) -> ListCopy
             mark: 0,
         }; 256],
     };
-    for (i, link) in list[..n].iter().enumerate() {
-        small = still_small(small, *link);
+    for (i, lent) in list[..n].iter().enumerate() {
+        // Read once: read from the list twice, it keeps the compiler from clearing the copy only once.
+        let link = *lent;
+        small = still_small(small, link);
         if i < MOST_COUNT {
-            copy.links[i] = *link;
+            copy.links[i] = link;
         }
     }
     copy.small = small;
