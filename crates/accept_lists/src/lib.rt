@@ -32,8 +32,10 @@ pub fn accept_list(
     ensures held { OnOk result (Held (job_at nodes edges (columns end1.now end2.now cost.now mark.now)) nodes edges
         (arrays end1.now end2.now cost.now mark.now ts.new mask.new)) }
 {
-    links::check_list(nodes, edges, end1, end2, cost, mark)?;
-    check_job(nodes, edges, end1, end2, cost, mark, ts, mask, true)
+    match links::check_list(nodes, edges, end1, end2, cost, mark) {
+        Ok(()) => check_job(nodes, edges, end1, end2, cost, mark, ts, mask, true),
+        Err(refusal) => Err(refusal),
+    }
 }
 
 // What is known before a link is looked at: by the word on large numbers and by the counts.

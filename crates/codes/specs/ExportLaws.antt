@@ -1,14 +1,18 @@
 -- Refusals are small numbers, and fit the results of functions for C. Assumes nothing.
-use Rattle.std.specs.Prelude.{ℕ, ◌<◌, ◌≤◌, ◌≡◌, Bool, true, false, Result, Ok, Err, ℤ, pos}
-use Rattle.std.proofs.Common.{arith, ap, ◌∙◌, ⊎_elim, lt-ltb, to_z, of_z}
+use Rattle.std.specs.Prelude.{ℕ, ◌<◌, ◌≤◌, ◌≡◌, refl, Bool, true, false, Result, Ok, Err, MatchResult, IsErrAnd, ℤ, pos}
+use Rattle.std.proofs.Common.{arith, sym, ap, subst, ◌∙◌, ⊎_elim, lt-ltb, to_z, of_z}
 use mathlib.Core.List.{List}
 use Rattle.std.specs.Int.{w32}
 use Rattle.limits.specs.declared.Refusal.{Refusal}
 use Rattle.limits.specs.Refusals.{number_of, refusal_in}
-use Rattle.limits.specs.ResultLaws.{refusal_most}
+use Rattle.limits.specs.ResultLaws.{ok-err, same_err, refusal_most}
 use Rattle.frame.specs.Services.{Outcome, Served}
 use Rattle.frame.specs.Meaning.{FirstNo, FirstNoWith, no1, no2, no3, no4, no5, no6, none}
-use Rattle.codes.specs.Exports.{code_of, told}
+use Rattle.codes.specs.Exports.{code_of, code_in, numbered, told, told_verdict}
+
+-- A refusal inside a verdict is a number that a result of C can tell.
+abbrev pub Sayable : Result Bool ℕ → Type 0
+Sayable v = (refusal : ℕ) → v ≡ Err refusal → refusal ≤ 31
 
 -- Questions 1 to 6 have numbers up to 6.
 pub first_most : {s : List ℕ} {n : ℕ} → FirstNo s n → n ≤ 6
@@ -61,3 +65,40 @@ pub code_read : (v : Result Bool Refusal) (r : ℤ) → r ≡ code_of v → to_z
 code_read (Ok true) r e = ap (λ (z : ℤ). to_z w32 (of_z w32 z)) e
 code_read (Ok false) r e = ap (λ (z : ℤ). to_z w32 (of_z w32 z)) e
 code_read (Err q) r e = ap (λ (z : ℤ). to_z w32 (of_z w32 z)) e ∙ number_same (number_of q) (reply_most {A = Bool} (Err q))
+
+-- The same of a verdict whose refusal is given by its number.
+told_same : (v : Result Bool ℕ) → Sayable v → told_verdict v ≡ v
+told_same (Ok word) h = refl
+told_same (Err n) h = let same : told n ≡ n = omega (arith, h n refl) in ap Err same
+
+code_same : (v : Result Bool ℕ) → Sayable v → to_z w32 (of_z w32 (code_in v)) ≡ code_in v
+code_same (Ok true) h = refl
+code_same (Ok false) h = refl
+code_same (Err n) h = number_same n (h n refl)
+
+pub code_told : (v : Result Bool ℕ) (r : ℤ) → Sayable v → r ≡ code_in (told_verdict v) → to_z w32 (of_z w32 r) ≡ code_in v
+code_told v r h e = ap (λ (z : ℤ). to_z w32 (of_z w32 z)) (e ∙ ap code_in (told_same v h)) ∙ code_same v h
+
+-- A verdict with its refusal given by its number is told as the verdict is.
+pub code_numbered : (v : Result Bool Refusal) → code_in (numbered v) ≡ code_of v
+code_numbered (Ok true) = refl
+code_numbered (Ok false) = refl
+code_numbered (Err q) = refl
+
+pub numbered_sayable : (v : Result Bool Refusal) → Sayable (numbered v)
+numbered_sayable (Ok word) refusal e = absurd (ok-err word refusal e)
+numbered_sayable (Err q) refusal e = omega (arith, refusal_most q, same_err (number_of q) refusal e)
+
+-- What `map_err` gives of it.
+numbered_is :
+    (v : Result Bool Refusal) (n : Result Bool ℕ) → MatchResult v (λ word. n ≡ Ok word) (λ q. IsErrAnd n (λ k. k ≡ number_of q)) → n ≡ numbered v
+numbered_is (Ok word) n e = e
+numbered_is (Err q) (Ok word) e = absurd e
+numbered_is (Err q) (Err k) e = ap Err e
+
+pub code_said :
+    (v : Result Bool Refusal) (n : Result Bool ℕ) (r : ℤ) → MatchResult v (λ word. n ≡ Ok word) (λ q. IsErrAnd n (λ k. k ≡ number_of q))
+    → r ≡ code_in (told_verdict n) → to_z w32 (of_z w32 r) ≡ code_of v
+code_said v n r given e =
+    let same = numbered_is v n given in
+    code_told n r (subst Sayable (sym same) (numbered_sayable v)) e ∙ ap code_in same ∙ code_numbered v

@@ -16,9 +16,23 @@ code_of (Ok true) = pos 0
 code_of (Ok false) = negsuc 0
 code_of (Err q) = pos (number_of q)
 
+-- The same of a verdict whose refusal is given by its number; and a verdict with its refusal given so.
+abbrev pub code_in : Result Bool ℕ → ℤ
+code_in (Ok true) = pos 0
+code_in (Ok false) = negsuc 0
+code_in (Err n) = pos n
+
+abbrev pub numbered : Result Bool Refusal → Result Bool ℕ
+numbered (Ok word) = Ok word
+numbered (Err q) = Err (number_of q)
+
 -- A refusal's number as a result of C can tell it: numbers to 31 as they are, any other as 31.
 abbrev pub told : ℕ → ℕ
 told n = min n 31
+
+abbrev pub told_verdict : Result Bool ℕ → Result Bool ℕ
+told_verdict (Ok word) = Ok word
+told_verdict (Err n) = Err (told n)
 
 -- What is said of every list of which this is the copy: of the list that was lent.
 abbrev pub Of : ListCopy → (List Link → Type 0) → Type 0

@@ -3,7 +3,7 @@
 
 ghost use Rattle.std.specs.Prelude.{◌≡◌, pos};
 ghost use Rattle.limits.specs.Refusals.{refusal_in, size_in};
-ghost use Rattle.codes.specs.Exports.{told, code_of};
+ghost use Rattle.codes.specs.Exports.{told, told_verdict, code_in};
 
 use limits::Refusal;
 
@@ -18,14 +18,14 @@ pub fn number(refusal: u32) -> i32
     refusal as i32
 }
 
-// A verdict as a number: 0 for yes, -1 for no, else the refusal.
-pub fn code(verdict: Result<bool, Refusal>) -> i32
-    ensures { result ≡ code_of verdict }
+// A verdict as a number: 0 for yes, -1 for no, else the refusal, which is given by its number.
+pub fn code(verdict: Result<bool, u32>) -> i32
+    ensures { result ≡ code_in (told_verdict verdict) }
 {
     match verdict {
         Ok(true) => 0,
         Ok(false) => -1,
-        Err(refusal) => number(u32::from(refusal)),
+        Err(refusal) => number(refusal),
     }
 }
 

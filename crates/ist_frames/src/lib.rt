@@ -13,19 +13,20 @@ pub fn answer(job: &[u8], area: &mut [u8], written: &mut usize) -> i32
     ensures { Replied (λ reply. Answered job.now area.old reply area.new) result written.new }
 {
     let reply = answering::answer(job, area);
-    tell(reply, written)
+    let told = tell(reply, written);
+    told
 }
 
 // Is the marked tree of a job frame cheapest?
 pub fn judge(job: &[u8]) -> i32
     ensures { Said (TreeJudged job.now) result }
 {
-    code(judging::judge(job))
+    code(judging::judge(job).map_err(u32::from))
 }
 
 // Is a frame an answer to the job frame?
 pub fn judge_answer(job: &[u8], answer: &[u8]) -> i32
     ensures { Said (AnswerJudged job.now answer.now) result }
 {
-    code(judging::judge_answer(job, answer))
+    code(judging::judge_answer(job, answer).map_err(u32::from))
 }

@@ -14,13 +14,13 @@ use records::ListCopy;
 pub fn judge_copy(stations: u32, list: ListCopy) -> i32
     ensures { Of list (λ ys. Said (ListJudged (list_job stations ys) TreeJudged) result) }
 {
-    code(lists::judge_links(stations, list))
+    code(lists::judge_links(stations, list).map_err(u32::from))
 }
 
 pub fn judge_answer_copy(stations: u32, list: ListCopy, answer: &[u8]) -> i32
     ensures { Of list (λ ys. Said (ListJudged (list_job stations ys) (λ s. AnswerJudged s answer.now)) result) }
 {
-    code(lists::judge_answer_links(stations, list, answer))
+    code(lists::judge_answer_links(stations, list, answer).map_err(u32::from))
 }
 
 pub fn locate_copy(

@@ -72,5 +72,5 @@ pub fn read_answer(
     *steps = copy.steps;
     *cost_count = copy.costs;
     *pair_count = copy.pairs;
-    code(verdict(said))
+    code(verdict(said).map_err(u32::from))
 }

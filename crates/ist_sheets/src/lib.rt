@@ -13,7 +13,8 @@ pub fn sheet(job: &[u8], costs: &[u8], area: &mut [u8], written: &mut usize) -> 
         written.new }
 {
     let made = stepping::sheet_of_costs(job, costs, area);
-    tell(made, written)
+    let said = tell(made, written);
+    said
 }
 
 // Writes the costs that a sheet leads to from those of a job frame into the area.
@@ -22,5 +23,6 @@ pub fn apply_sheet(job: &[u8], sheet: &[u8], area: &mut [u8], written: &mut usiz
         written.new }
 {
     let applied = stepping::costs_of_sheet(job, sheet, area);
-    tell(applied, written)
+    let told = tell(applied, written);
+    told
 }

@@ -14,7 +14,8 @@ pub fn answer_copy(stations: u32, list: ListCopy, area: &mut [u8], written: &mut
         written.new) }
 {
     let reply = writing::answer_links(stations, list, area);
-    tell(reply, written)
+    let told = tell(reply, written);
+    told
 }
 
 pub fn write_copy(stations: u32, list: ListCopy, area: &mut [u8], written: &mut usize) -> i32
@@ -22,5 +23,6 @@ pub fn write_copy(stations: u32, list: ListCopy, area: &mut [u8], written: &mut 
         written.new) }
 {
     let frame = writing::write_links(stations, list, area);
-    tell(frame, written)
+    let said = tell(frame, written);
+    said
 }

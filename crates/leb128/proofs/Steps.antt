@@ -6,7 +6,7 @@ use native.Mathlib.Omega.{arith}
 use mathlib.Core.Path.{◌≡◌, refl, ap, ◌∙◌}
 use mathlib.Core.List.{List}
 use lib.ListN.{length, drop, get_or, drop_of_length-le}
-use Rattle.number.specs.Number.{extend, decode}
+use Rattle.number.specs.Number.{Bytes, extend, decode}
 use Rattle.leb128.specs.Positions.{located, read_at, Stands, located_value, located_refused}
 use Rattle.number.specs.Number.Decoded.{number}
 use Rattle.std.specs.Prelude.{Some, None}
@@ -15,7 +15,7 @@ use Rattle.std.specs.Prelude.{Option, cond, eqb}
 use Rattle.std.proofs.Common.{sym}
 use Rattle.std.proofs.Math.Nat.{mul-le-mul_left}
 use Rattle.std.proofs.lemmas.Bool.{eq-eqb, ne_eqb}
-use Rattle.number.proofs.Laws.{extend_zero, extend_more, decode_one, decode_group}
+use Rattle.number.proofs.Laws.{bytes_drop, decode_bound, extend_zero, extend_more, decode_one, decode_group}
 
 -- A number may take a byte.
 pub some_byte : (k : ℕ) → suc k ≡ 0 → ⊥
@@ -74,6 +74,12 @@ module _ (k : ℕ) (s : List ℕ) (at : ℕ) (some : k ≡ 0 → ⊥) (within : 
       let p = located_value (at + 1) (decode (k - 1) (drop (at + 1) s)) r e in
       rw (read_rest k s at some within more, p.1, extend_more (get_or s at 0 - 128) r.value p.0 (omega arith))
       (ap (λ (n : ℕ). Some (record { value = get_or s at 0 - 128 + 128 * r.value; next = n })) (omega arith))
+
+-- A number that was read is below 128 to the number of bytes that were allowed.
+pub read_bound : (k : ℕ) (s : List ℕ) (at : ℕ) (r : Number) → Bytes s → read_at k s at ≡ Some r → r.value < 128 ^ k
+read_bound k s at r h e =
+    let p = located_value at (decode k (drop at s)) r e in
+    decode_bound k (drop at s) r.value p.0 (bytes_drop at s h) p.1
 
 -- What is read where bytes from 128 on have been passed whose groups make v, when the next group counts w times and o is read behind them:
 -- no 0, for its last byte would be a 00 behind another byte.
@@ -203,9 +209,19 @@ module _ (k : ℕ) (s : List ℕ) (at : ℕ) (stands : Stands k s at) where
         | no l ↦ absurd (stands (read_end k s at (omega arith)))
       ]
 
+  module _ (more : 128 ≤ get_or s at 0) where
+    pub known_rest : Stands (k - 1) s (at + 1)
+    known_rest e = stands (read_refused k s at known_some known_within more e)
+
+    pub known_value :
+        (r : Number) →
+        read_at (k - 1) s (at + 1) ≡ Some r →
+        read_at k s at ≡ Some (record { value = get_or s at 0 - 128 + 128 * r.value; next = r.next })
+    known_value r e = read_value k s at known_some known_within more r e (λ z. stands (read_padded k s at known_some known_within more r e z))
+
   pub known_last : k ≡ 1 → get_or s at 0 < 128
   known_last one =
       elim (dec_lt (get_or s at 0) 128) [
         | yes l ↦ l
-        | no l ↦ absurd (stands (read_refused k s at known_some known_within (omega arith) (read_none (k - 1) s (at + 1) (omega arith))))
+        | no l ↦ absurd (known_rest (omega arith) (read_none (k - 1) s (at + 1) (omega arith)))
       ]

@@ -2,7 +2,8 @@
 -- six, one by our own question, and what is written. Assumes nothing.
 use Prim.Native.Nat.{ℕ, zero, suc, ◌≤◌}
 use Rattle.std.proofs.Common.{arith, ◌∙◌, inl, inr, eq-eqb, ne_eqb}
-use Rattle.std.specs.Prelude.{◌≡◌, refl, ◌⊎◌, Bool, List, [], Ok, Err, ltb, length, take, drop}
+use Rattle.std.specs.Prelude as prelude
+use Rattle.std.specs.Prelude.{◌≡◌, refl, ◌⊎◌, Bool, List, [], Result, Ok, Err, ltb, length, take, drop}
 use Rattle.std.proofs.Math.Path.{sym, ap, fun_ext}
 use Rattle.std.proofs.Math.Bool.{cond}
 use Rattle.std.proofs.Math.Option.{Option, some, none, map, get_or}
@@ -16,7 +17,7 @@ use Rattle.frame.specs.Questions.{job_of, refusal, later}
 use Rattle.frame.proofs.Form.{later_refused}
 use Rattle.limits.specs.declared.Refusal.{Refusal}
 use Rattle.limits.specs.declared.Refusal.TheVariants.{Log}
-use Rattle.limits.specs.Refusals.{number_of}
+use Rattle.limits.specs.Refusals.{number_of, refusal_in}
 use Rattle.limits.specs.ResultLaws.{refusal_nonzero}
 use Rattle.codec.specs.Numbers.{numbers_at}
 use Rattle.codec.specs.WritingLaws.{put_refused}
@@ -31,7 +32,8 @@ use Rattle.replay.proofs.Hearing.{rest_unread, all_packets, all_read, all_costs,
 use Rattle.watch.specs.declared.Heard.{Heard}
 use Rattle.violations.specs.Counting.{violations_by}
 use Rattle.watch.specs.Watching.{none_at, HeardSoFar}
-use Rattle.replaying.specs.Replayed.{packets_told, replay_outcome, replay_for, replay_refusal, first_in, first_for, when_left}
+use Rattle.replaying.specs.Replayed.{packets_told, first_told, replay_outcome, replay_for, replay_refusal, first_in, first_for}
+use Rattle.replaying.specs.Replayed.{when_left, with_first}
 use Rattle.replaying.specs.HeldCounts.{cheapest_held}
 
 -- ---- a refusal
@@ -143,3 +145,11 @@ module _ {s : List ℕ} {h : Header} {a : Arrays} (k : Asked s (Ok h) a) (f area
               rw (ne_eqb (suc v) 0 (λ q. omega (arith, q)))
               (sym (first_nowhere h.edges f (costs_at a.links.cost) (none_at counted) r.at r.count (costs_at cs) w.heard (costs_at xs) e
               (ne_eqb (counted (costs_at cs)) 0 (λ q. omega (arith, left, q))) l))
+
+-- ---- what was written, with the first number
+
+pub with_told :
+    (r : Result ℕ Refusal) (when : prelude.Option ℕ) (s f : List ℕ) → packets_told when ≡ first_for 0 s f
+    → first_told (with_first r when) ≡ first_for (refusal_in (with_first r when)) s f
+with_told (Ok n) when s f e = e
+with_told (Err q) when s f e = told_refused q s f

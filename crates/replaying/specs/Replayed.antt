@@ -81,3 +81,8 @@ pub record LogReplayed (s f area : List ℕ) (r : Result Replayed Refusal) (afte
 -- The first number, by the violations that are left after so many packets: the tree is cheapest if there are none.
 abbrev pub when_left : ℕ → ℕ → Option ℕ
 when_left v count = then_some (eqb v 0) count
+
+-- What was written, with the first number: a refusal has none beside it.
+abbrev pub with_first : Result ℕ Refusal → Option ℕ → Result Replayed Refusal
+with_first (Ok n) first = Ok (record { length = n; first = first })
+with_first (Err q) first = Err q

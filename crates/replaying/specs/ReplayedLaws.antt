@@ -91,4 +91,4 @@ pub told_few :
 told_few s f area (Ok x) after p k e =
     let g = p.done in
     omega (arith, first_few (job_of s) g.packets (packets_told x.first) k g.first e, log_size (job_edges (job_of s)) f g.packets g.log)
-told_few s f area (Err q) after p k e = let z : ◌≡◌ {A = ℕ} 0 1 = cc in absurd (omega arith)
+told_few s f area (Err q) after p k e = let none : 0 ≡ k = cc in omega (arith, none)

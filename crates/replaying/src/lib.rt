@@ -38,7 +38,10 @@ fn replay_held(
         → Asked s accepted (arrays end1.now end2.now cost.old mark.now ts.now mask.now)
         → LogReplayed s log.now area.old result area.new }
 {
-    let header = accepted?;
+    let header = match accepted {
+        Ok(header) => header,
+        Err(refusal) => return Err(refusal),
+    };
     let edges = header.edges as usize;
     let watched = watch::until_cheapest(log, edges, ts, end1, end2, cost, mark, mask);
     let heard = watched.ok_or(Refusal::Log)?;

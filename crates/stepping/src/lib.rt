@@ -19,7 +19,10 @@ fn sheet_held(
     requires { SomeCosts accepted cost.now }
     ensures { (s : List ℕ) → AskedCosts s accepted cost.now → SheetMade s costs.now area.old result area.new }
 {
-    let header = accepted?;
+    let header = match accepted {
+        Ok(header) => header,
+        Err(refusal) => return Err(refusal),
+    };
     let edges = header.edges as usize;
     let mut new = [0u32; 256];
     if !sheet_read::read_costs(costs, edges, &mut new) {
@@ -39,7 +42,10 @@ fn costs_held(
     requires { SomeCosts accepted cost.old }
     ensures { (s : List ℕ) → AskedCosts s accepted cost.old → SheetApplied s sheet.now area.old result area.new }
 {
-    let header = accepted?;
+    let header = match accepted {
+        Ok(header) => header,
+        Err(first) => return Err(first),
+    };
     let edges = header.edges as usize;
     if !sheet_read::apply_moves(sheet, edges, cost) {
         return Err(Refusal::Sheet);

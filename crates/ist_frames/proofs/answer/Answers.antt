@@ -6,7 +6,7 @@ pub returns : goal.returns
 returns c =
     record {
       reply = c.answer-reply.result;
-      number = reply_read _ _ c.tell.ensures.number;
-      length = c.tell.ensures.length;
+      number = reply_read _ _ c.tell-told.ensures.number;
+      length = c.tell-told.ensures.length;
       told = c.answer-reply.ensures;
     }

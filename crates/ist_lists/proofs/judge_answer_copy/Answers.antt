@@ -4,7 +4,7 @@ use Rattle.frame.specs.Questions.{job_of}
 use Rattle.frame.specs.Answers.{judge_answer}
 use Rattle.frame.specs.AnswerMeaning.{Certified}
 use Rattle.listed.proofs.LentLaws.{lent_as, lent_judged}
-use Rattle.codes.specs.ExportLaws.{code_read}
+use Rattle.codes.specs.ExportLaws.{code_said}
 use Rattle.ist_lists.proofs.judge_answer_copy.Goals as goal
 
 pub returns : goal.returns
@@ -14,6 +14,6 @@ returns c = λ ys copy.
     (lent_as a.stations ys _ _ copy c.judge_answer_links.ensures) in
     record {
       verdict = c.judge_answer_links.result;
-      number = code_read _ _ c.code.ensures;
+      number = code_said _ _ _ c.map_err.ensures.cases c.code.ensures;
       judged = judged;
     }

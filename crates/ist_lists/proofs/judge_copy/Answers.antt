@@ -3,7 +3,7 @@ use Rattle.frame.specs.Questions.{job_of}
 use Rattle.frame.specs.Answers.{judge_tree}
 use Rattle.judging.specs.Verdicts.{Cheapest}
 use Rattle.listed.proofs.LentLaws.{lent_as, lent_judged}
-use Rattle.codes.specs.ExportLaws.{code_read}
+use Rattle.codes.specs.ExportLaws.{code_said}
 use Rattle.ist_lists.proofs.judge_copy.Goals as goal
 
 pub returns : goal.returns
@@ -13,6 +13,6 @@ returns c = λ ys copy.
     (lent_as a.stations ys _ _ copy c.judge_links.ensures) in
     record {
       verdict = c.judge_links.result;
-      number = code_read _ _ c.code.ensures;
+      number = code_said _ _ _ c.map_err.ensures.cases c.code.ensures;
       judged = judged;
     }

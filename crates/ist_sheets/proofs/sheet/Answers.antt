@@ -6,7 +6,7 @@ pub returns : goal.returns
 returns c =
     record {
       reply = c.sheet_of_costs-made.result;
-      number = reply_read _ _ c.tell.ensures.number;
-      length = c.tell.ensures.length;
+      number = reply_read _ _ c.tell-said.ensures.number;
+      length = c.tell-said.ensures.length;
       told = c.sheet_of_costs-made.ensures;
     }

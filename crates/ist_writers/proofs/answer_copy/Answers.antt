@@ -9,7 +9,7 @@ returns c = λ ys copy.
     let told = lent_answered a.stations ys _ _ _ (lent_as a.stations ys _ _ copy c.answer_links-reply.ensures) in
     record {
       reply = c.answer_links-reply.result;
-      number = reply_read _ _ c.tell.ensures.number;
-      length = c.tell.ensures.length;
+      number = reply_read _ _ c.tell-told.ensures.number;
+      length = c.tell-told.ensures.length;
       told = told;
     }

@@ -9,7 +9,7 @@ returns c = λ ys copy.
     let told = lent_written a.stations ys _ _ _ (lent_as a.stations ys _ _ copy c.write_links-frame.ensures) in
     record {
       reply = c.write_links-frame.result;
-      number = reply_read _ _ c.tell.ensures.number;
-      length = c.tell.ensures.length;
+      number = reply_read _ _ c.tell-said.ensures.number;
+      length = c.tell-said.ensures.length;
       told = told;
     }

@@ -1,7 +1,7 @@
 -- `replaying::replay_held` meets its contract: the log is heard and the costs written; a refusal writes nothing. Assumes nothing.
 use mathlib.Core.Path.{◌≡◌, ap, ◌∙◌}
 use mathlib.Core.Option.{some}
-use Rattle.std.specs.Prelude.{Err}
+use Rattle.std.specs.Prelude.{Ok, Err}
 use Rattle.std.proofs.lemmas.Result.{err_from_is_err_and}
 use Rattle.std.specs.Option.{ok_or}
 use Rattle.limits.specs.declared.Refusal.TheVariants.{Log}
@@ -11,22 +11,20 @@ use Rattle.sheet_read.specs.ApplyLaws.{given_some, given_none}
 use Rattle.replaying.specs.Replayed.{packets_told}
 use Rattle.replaying.specs.ReplayedLaws.{log_replayed_of}
 use Rattle.replaying.specs.HeldCounts.{priced_held, countable_held}
-use Rattle.replaying.specs.ReplaySteps.{told_refused, replay_six, replay_nine, replay_broken, replay_whole, replay_first}
+use Rattle.replaying.specs.ReplaySteps.{told_refused, replay_six, replay_nine, replay_broken, replay_whole, replay_first, with_told}
 use Rattle.replaying.proofs.replay_held.Goals as goal
 
-pub returns-in_err-header : goal.returns-in_err-header
-returns-in_err-header c =
+pub returns-in-Err : goal.returns-in-Err
+returns-in-Err c =
     let a = c.args in
-    let q = c.in_err-header.field-0.0 in
-    let p = err_from_is_err_and c.from_residual.result c.from_residual.ensures.1 in
+    let q = c.in-Err.refusal in
     λ s k.
-    rw (p.1, p.2)
-    (log_replayed_of s a.log.now a.area.now k.bytes (λ i. (c.type_inv.log i).fits) (Err q) _
-    (replay_six (rw c.in_err-header.was at k) a.log.now a.area.now) (told_refused q s a.log.now))
+    log_replayed_of s a.log.now a.area.now k.bytes (λ i. (c.type_inv.log i).fits) (Err q) _
+    (replay_six (rw c.in-Err.is at k) a.log.now a.area.now) (told_refused q s a.log.now)
 
 pub until_cheapest-watched-requires : goal.until_cheapest-watched-requires
 until_cheapest-watched-requires c =
-    let (j, h) = rw c.in_ok-header.was at c.requires in
+    let (j, h) = rw c.in-Ok.is at c.requires in
     record { by_index = (_, countable_held h); ranged_costs = priced_held h }
 
 pub returns-in_err-heard : goal.returns-in_err-heard
@@ -34,11 +32,11 @@ returns-in_err-heard c =
     let a = c.args in
     let none = c.in_err-heard.ensures.ok_part in
     let nine = same_err _ _ (c.in_err-heard.ensures.value ∙ ap (λ o. ok_or o Log) none) in
-    let p = err_from_is_err_and c.from_residual-in_err-heard.result c.from_residual-in_err-heard.ensures.1 in
+    let p = err_from_is_err_and c.from_residual.result c.from_residual.ensures.1 in
     λ s k.
     rw (p.1, p.2, nine)
     (log_replayed_of s a.log.now a.area.now k.bytes (λ i. (c.type_inv.log i).fits) (Err Log) _
-    (replay_nine (rw c.in_ok-header.was at k) a.log.now a.area.now (rw none at c.until_cheapest-watched.ensures.so_far))
+    (replay_nine (rw c.in-Ok.is at k) a.log.now a.area.now (rw none at c.until_cheapest-watched.ensures.so_far))
     (told_refused Log s a.log.now))
 
 pub returns-then-not-hear_rest : goal.returns-then-not-hear_rest
@@ -47,7 +45,7 @@ returns-then-not-hear_rest c =
     let rest = c.hear_rest in
     let heard = rw c.in_ok-heard.ensures.ok_part at c.until_cheapest-watched.ensures.so_far in
     λ s k.
-    let held = rw c.in_ok-header.was at k in
+    let held = rw c.in-Ok.is at k in
     log_replayed_of s a.log.now a.area.now k.bytes (λ i. (c.type_inv.log i).fits) (Err Log) _
     (replay_nine held a.log.now a.area.now
     (replay_broken held a.log.now a.area.now _ _ heard
@@ -66,7 +64,7 @@ returns-in_err-length c =
     λ s k.
     rw (p.1, p.2)
     (log_replayed_of s a.log.now a.area.now k.bytes (λ i. (c.type_inv.log i).fits) (Err q) _
-    (c.in_err-length.ensures ∙ replay_whole (rw c.in_ok-header.was at k) a.log.now a.area.now _ _ heard xs left)
+    (c.in_err-length.ensures ∙ replay_whole (rw c.in-Ok.is at k) a.log.now a.area.now _ _ heard xs left)
     (told_refused q s a.log.now))
 
 pub returns : goal.returns
@@ -77,7 +75,8 @@ returns c =
     let heard = rw c.in_ok-heard.ensures.ok_part at c.until_cheapest-watched.ensures.so_far in
     let left : some (costs_at xs) ≡ _ = given_some rest.result (costs_at xs) _ c.if-not-hear_rest.false rest.ensures in
     λ s k.
-    let held = rw c.in_ok-header.was at k in
+    let held = rw c.in-Ok.is at k in
     log_replayed_of s a.log.now a.area.now k.bytes (λ i. (c.type_inv.log i).fits) _ _
     (c.in_ok-length.ensures ∙ replay_whole held a.log.now a.area.now _ _ heard xs left)
-    (ap packets_told c.then_some-first.ensures ∙ replay_first held a.log.now a.area.now _ _ heard xs left)
+    (with_told (Ok c.in_ok-length.length) c.then_some-first.result s a.log.now
+    (ap packets_told c.then_some-first.ensures ∙ replay_first held a.log.now a.area.now _ _ heard xs left))
