@@ -30,7 +30,10 @@ pub fn answer_held(
         → Answered s area.old result area.new }
     ensures refused { IfErr accepted (λ r. Untouched (number_of r) area.old result area.new) }
 {
-    let header = accepted?;
+    let header = match accepted {
+        Ok(header) => header,
+        Err(refusal) => return Err(refusal),
+    };
     let nodes = header.nodes;
     let edges = header.edges as usize;
     let mut pairs = [0u32; 128];

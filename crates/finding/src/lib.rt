@@ -28,7 +28,13 @@ pub fn locate_link(frame: &[u8], edge: Edge) -> Part
     let accepted = accept(
         frame, &mut end1, &mut end2, &mut cost, &mut mark, &mut ts, &mut mask, false,
     );
-    job::link_part(frame, accepted, edge)
+    let Ok(header) = accepted else {
+        return Part {
+            offset: 0,
+            length: 0,
+        };
+    };
+    job::link_part(frame, Ok(header), edge)
 }
 
 // The bytes of a link; none if the frame is refused or has no such link.

@@ -26,7 +26,10 @@ pub fn judge_held(
         → TreeJudged s result }
     ensures refused { IfErr accepted (λ r. result ≡ Err r) }
 {
-    let header = accepted?;
+    let header = match accepted {
+        Ok(header) => header,
+        Err(refusal) => return Err(refusal),
+    };
     let edges = header.edges as usize;
     let count = header.nodes as usize - 1;
     // Tree ranks are by falling cost: none costs more than a lower one.
@@ -68,7 +71,10 @@ pub fn judge_answer_held(
         → AnswerJudged s offered.now result }
     ensures refused { IfErr accepted (λ r. result ≡ Err r) }
 {
-    let counts = accepted?;
+    let counts = match accepted {
+        Ok(counts) => counts,
+        Err(first) => return Err(first),
+    };
     let nodes = counts.nodes;
     let edges = counts.edges as usize;
     let certified = certify::certify(offered, nodes, edges, ts, end1, end2, cost, mark, mask);

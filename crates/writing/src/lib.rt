@@ -25,19 +25,11 @@ pub fn write_links(nodes: u32, list: ListCopy, area: &mut [u8]) -> Result<usize,
     let accepted = accept_links(
         nodes, list, &mut end1, &mut end2, &mut cost, &mut mark, &mut ts, &mut mask,
     );
-    let header = accepted?;
-    let edges = header.edges as usize;
-    job_write::write_job(
-        Ok(()),
-        header.nodes,
-        edges,
-        &end1,
-        &end2,
-        &cost,
-        &mark,
-        area,
-        0,
-    )
+    let (earlier, nodes, edges) = match accepted {
+        Ok(header) => (Ok(()), header.nodes, header.edges as usize),
+        Err(refusal) => (Err(refusal), 0, 0),
+    };
+    job_write::write_job(earlier, nodes, edges, &end1, &end2, &cost, &mark, area, 0)
 }
 
 // Writes the answer to a list of records into the area and gives its length, or refuses it and writes nothing.
