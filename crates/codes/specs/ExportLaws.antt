@@ -1,6 +1,6 @@
 -- Refusals are small numbers, and fit the results of functions for C. Assumes nothing.
 use Rattle.std.specs.Prelude.{ℕ, ◌<◌, ◌≤◌, ◌≡◌, refl, Bool, true, false, Result, Ok, Err, MatchResult, IsErrAnd, ℤ, pos}
-use Rattle.std.proofs.Common.{arith, sym, ap, subst, ◌∙◌, ⊎_elim, lt-ltb, to_z, of_z}
+use Rattle.std.proofs.Common.{arith, ap, ◌∙◌, ⊎_elim, lt-ltb, to_z, of_z}
 use mathlib.Core.List.{List}
 use Rattle.std.specs.Int.{w32}
 use Rattle.limits.specs.declared.Refusal.{Refusal}
@@ -79,17 +79,17 @@ code_same (Err n) h = number_same n (h n refl)
 pub code_told : (v : Result Bool ℕ) (r : ℤ) → Sayable v → r ≡ code_in (told_verdict v) → to_z w32 (of_z w32 r) ≡ code_in v
 code_told v r h e = ap (λ (z : ℤ). to_z w32 (of_z w32 z)) (e ∙ ap code_in (told_same v h)) ∙ code_same v h
 
--- A verdict with its refusal given by its number is told as the verdict is.
-pub code_numbered : (v : Result Bool Refusal) → code_in (numbered v) ≡ code_of v
-code_numbered (Ok true) = refl
-code_numbered (Ok false) = refl
-code_numbered (Err q) = refl
-
+-- A refusal's number is such a number: a verdict with its refusal given by its number is told as the verdict is.
 pub numbered_sayable : (v : Result Bool Refusal) → Sayable (numbered v)
 numbered_sayable (Ok word) refusal e = absurd (ok-err word refusal e)
 numbered_sayable (Err q) refusal e = omega (arith, refusal_most q, same_err (number_of q) refusal e)
 
--- What `map_err` gives of it.
+pub code_numbered : (v : Result Bool Refusal) → code_in (told_verdict (numbered v)) ≡ code_of v
+code_numbered (Ok true) = refl
+code_numbered (Ok false) = refl
+code_numbered (Err q) = ap pos (told_refusal q)
+
+-- What `map_err` gives of it, told and read back.
 numbered_is :
     (v : Result Bool Refusal) (n : Result Bool ℕ) → MatchResult v (λ word. n ≡ Ok word) (λ q. IsErrAnd n (λ k. k ≡ number_of q)) → n ≡ numbered v
 numbered_is (Ok word) n e = e
@@ -99,6 +99,4 @@ numbered_is (Err q) (Err k) e = ap Err e
 pub code_said :
     (v : Result Bool Refusal) (n : Result Bool ℕ) (r : ℤ) → MatchResult v (λ word. n ≡ Ok word) (λ q. IsErrAnd n (λ k. k ≡ number_of q))
     → r ≡ code_in (told_verdict n) → to_z w32 (of_z w32 r) ≡ code_of v
-code_said v n r given e =
-    let same = numbered_is v n given in
-    code_told n r (subst Sayable (sym same) (numbered_sayable v)) e ∙ ap code_in same ∙ code_numbered v
+code_said v n r given e = code_read v r (e ∙ ap (λ (n : Result Bool ℕ). code_in (told_verdict n)) (numbered_is v n given) ∙ code_numbered v)
