@@ -34,5 +34,5 @@ pub record Asked (s : List ℕ) (r : Result Header Refusal) (a : Arrays) : Type 
   pub held : IfOk r (λ h. Held (job_of s) h.nodes h.edges a)
 
 -- Where they have accepted, the arrays hold a job.
-abbrev pub SomeHeld : Result Header Refusal → Arrays → Type 0
+abbrev pub SomeHeld : {E : Type 0} → Result Header E → Arrays → Type 0
 SomeHeld r a = IfOk r (λ h. (j : Job) × Held j h.nodes h.edges a)

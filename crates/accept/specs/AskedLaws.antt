@@ -20,7 +20,7 @@ pub asked_edges : {s : List ℕ} {h : Header} {a : Arrays} → Asked s (Ok h) a 
 asked_edges k = k.held.stored.edges_are
 
 -- A job that the arrays hold was accepted as its own frame would be.
-pub held_asked : {h : Header} {a : Arrays} → SomeHeld (Ok h) a → (s : List ℕ) × Asked s (Ok h) a
+pub held_asked : {h : Header} {a : Arrays} → SomeHeld {E = Refusal} (Ok h) a → (s : List ℕ) × Asked s (Ok h) a
 held_asked {h} {a} (j, k) =
     let (none, same) = read_write6 j k.accepted in (
       job_frame j,

@@ -1,11 +1,10 @@
 // Answer frames: the writer of an answer held in arrays, costs in link order, tree link and spare link of the pairs by turns.
 #![tactic(auto)]
 
-ghost use Rattle.std.specs.Prelude.{◌≡◌, ◌+◌, ◌*◌, ◌<◌, ◌≤◌, IfOk, leb, length, set};
-ghost use Rattle.limits.specs.Refusals.{refusal_in};
+ghost use Rattle.std.specs.Prelude.{◌≡◌, ◌+◌, ◌*◌, ◌<◌, ◌≤◌, Err, IfErr, OnOk, leb, length, set};
 ghost use Rattle.frame.specs.AnswerMeaning.{answer_frame};
 ghost use Rattle.frame.specs.Services.{written};
-ghost use Rattle.codec.specs.Numbers.{Put, outcome};
+ghost use Rattle.codec.specs.Numbers.{Put, Told, outcome};
 ghost use Rattle.codec.specs.Held.{answer_front, answer_at};
 ghost use Rattle.answer.specs.Contents.{mate_pairs, PairsListed};
 
@@ -69,9 +68,8 @@ fn put_answer(
     codec::write_numbers(area, last, pairs, 2 * count)
 }
 
-// Writes the answer frame at a position of the area, unless there was a refusal before; question 7.
-pub fn write_answer(
-    earlier: Result<(), Refusal>,
+// Writes the answer frame at a position of the area; question 7.
+fn write_frame(
     steps: u32,
     edges: usize,
     costs: &[u32; 256],
@@ -80,11 +78,11 @@ pub fn write_answer(
     area: &mut [u8],
     at: usize,
 ) -> Result<usize, Refusal>
-    requires { IfOk earlier (λ _. (edges ≤ 256) × (count ≤ 64)) }
+    requires edges_bound { edges ≤ 256 }
+    requires count_bound { count ≤ 64 }
     ensures { outcome result area.new
-        ≡ written (refusal_in earlier) (answer_frame (answer_at steps edges costs.now count pairs.now)) at area.old }
+        ≡ written 0 (answer_frame (answer_at steps edges costs.now count pairs.now)) at area.old }
 {
-    earlier?;
     if area.len() < at {
         return Err(Refusal::Room);
     }
@@ -93,6 +91,30 @@ pub fn write_answer(
     }
     let behind = put_answer(area, at, steps, edges, costs, count, pairs);
     Ok(behind - at)
+}
+
+// Writes the answer frame at a position of the area, unless there was an error before, which is handed on; question 7, in the
+// caller's own errors.
+pub fn write_answer<E: Copy + From<Refusal>>(
+    earlier: Result<(), E>,
+    steps: u32,
+    edges: usize,
+    costs: &[u32; 256],
+    count: usize,
+    pairs: &[u32; 128],
+    area: &mut [u8],
+    at: usize,
+) -> Result<usize, E>
+    requires { OnOk earlier ((edges ≤ 256) × (count ≤ 64)) }
+    ensures refused { IfErr earlier (λ e. (result ≡ Err e) × (area.new ≡ area.old)) }
+    ensures written { OnOk earlier (Told E.from_gives result (λ r. outcome r area.new
+        ≡ written 0 (answer_frame (answer_at steps edges costs.now count pairs.now)) at area.old)) }
+{
+    if earlier.is_err() {
+        return earlier.map(|_| 0);
+    }
+    let length = write_frame(steps, edges, costs, count, pairs, area, at)?;
+    Ok(length)
 }
 
 // Puts a pair at a place of the list.

@@ -1,6 +1,6 @@
 -- Numbers in a frame, one behind the other: what the functions that read and write them compute. Definitions only.
 -- Assumes nothing.
-use Rattle.std.specs.Prelude.{ℕ, ◌+◌, ◌≤◌, ◌≡◌, List, Result, length, drop, get_or, set}
+use Rattle.std.specs.Prelude.{ℕ, ◌+◌, ◌≤◌, ◌≡◌, List, Result, Ok, Err, length, drop, get_or, set}
 use Rattle.std.proofs.lemmas.List.Edits.{sets}
 use Rattle.loops.specs.Loop.{scan, tabulate}
 use Rattle.number.specs.Number.{Decoded, decode}
@@ -67,3 +67,8 @@ pub record Put (before : List ℕ) (at : ℕ) (bytes : List ℕ) (behind : ℕ) 
 -- What a service says, with the area as it then is: the length written, or why it refuses.
 abbrev pub outcome : Result ℕ Refusal → List ℕ → Outcome
 outcome r area = record { refusal = refusal_in r; size = size_in r; area = area }
+
+-- What is said of a reply, told in a caller's own errors: of an error it is said of a refusal of which the caller makes it.
+abbrev pub Told : {E : Type 0} → (Refusal → E → Type 0) → Result ℕ E → (Result ℕ Refusal → Type 0) → Type 0
+Told makes (Ok n) Said = Said (Ok n)
+Told makes (Err e) Said = (q : Refusal) × makes q e × Said (Err q)

@@ -1,11 +1,12 @@
 -- Laws of writing: runs of stores join, and what a service writes by the tests of the code. Assumes nothing.
-use Rattle.std.specs.Prelude.{ℕ, zero, suc, ◌+◌, ◌<◌, ◌≤◌, ◌≡◌, refl, List, [], ◌∷◌, ◌++◌, length, set}
-use Rattle.std.proofs.Common.{arith, ap, ap₂, ◌∙◌, length-append, le-leb}
+use Rattle.std.specs.Prelude.{ℕ, zero, suc, ◌+◌, ◌<◌, ◌≤◌, ◌≡◌, refl, List, [], ◌∷◌, ◌++◌, Result, Ok, Err, length, set}
+use Rattle.std.proofs.Common.{arith, sym, ap, ap₂, subst, ◌∙◌, length-append, le-leb}
 use Rattle.std.proofs.lemmas.List.Edits.{sets}
 use Rattle.std.proofs.Math.Seq.{length-sets}
 use Rattle.std.proofs.lemmas.Bool.{lt-leb}
-use Rattle.frame.specs.Services.{written}
-use Rattle.codec.specs.Numbers.{Put}
+use Rattle.frame.specs.Services.{Outcome, written}
+use Rattle.limits.specs.declared.Refusal.{Refusal}
+use Rattle.codec.specs.Numbers.{Put, outcome, Told}
 
 -- A run of stores behind another is one run.
 pub sets_append : (l : List ℕ) (i : ℕ) (vs ws : List ℕ) → sets (sets l i vs) (i + length vs) ws ≡ sets l i (vs ++ ws)
@@ -54,3 +55,12 @@ pub put_whole :
     after ≡ sets area at bytes →
     record { refusal = 0; size = n; area = after } ≡ written r bytes at area
 put_whole r bytes at area after n z l e q = rw (z, le-leb (at + length bytes) (length area) l) (λ i. record { refusal = 0; size = e i; area = q i })
+
+-- To a caller whose errors are the refusals themselves a reply is told as it is.
+pub told_as_is : (r : Result ℕ Refusal) (Said : Result ℕ Refusal → Type 0) → Told (λ q e. e ≡ q) r Said → Said r
+told_as_is (Ok n) Said said = said
+told_as_is (Err e) Said (q, is, said) = subst (λ q. Said (Err q)) (sym is) said
+
+pub told_outcome :
+    (r : Result ℕ Refusal) (area : List ℕ) (o : Outcome) → Told (λ q e. e ≡ q) r (λ r. outcome r area ≡ o) → outcome r area ≡ o
+told_outcome r area o = told_as_is r (λ r. outcome r area ≡ o)

@@ -1,9 +1,9 @@
 -- The finders' parts are what they should be. Assumes nothing.
-use Rattle.std.specs.Prelude.{ℕ, ◌+◌, ◌-◌, ◌<◌, ◌≤◌, ◌≡◌, refl, Bool, true, false, List, Result, Ok, Err, IfOk, eqb, length, take, drop}
+use Rattle.std.specs.Prelude.{ℕ, ◌+◌, ◌-◌, ◌<◌, ◌≤◌, ◌≡◌, refl, Bool, true, false, List, Result, Ok, Err, IfOk, IfErr, eqb, length, take, drop}
 use Rattle.std.proofs.Common.{arith, ap, subst, ◌∙◌, ⊎_elim, eqb-true}
 use Rattle.std.proofs.Math.Path.{sym}
 use Rattle.std.proofs.lemmas.Bool.{eqb-false}
-use Rattle.loops.specs.TestLaws.{truth}
+use Rattle.loops.specs.TestLaws.{truth, clash}
 use Rattle.number.specs.Number.{Bytes}
 use Rattle.frame.specs.Answers.{judge_answer}
 use Rattle.frame.specs.AnswerMeaning.{AnswerOf}
@@ -21,6 +21,10 @@ use Rattle.finding.specs.Parts.{LinkFound, CostFound, LinkLocated, CostLocated}
 use Rattle.judging.specs.Verdicts.{AnswerJudged}
 use Rattle.limits.specs.declared.Refusal.{Refusal}
 use Rattle.limits.specs.Refusals.{refusal_in}
+use Rattle.limits.specs.ResultLaws.{refusal_nonzero, same_ok}
+use Rattle.frame.specs.Arrays.{Arrays}
+use Rattle.accept.specs.Accepting.{Asked}
+use Rattle.accept.specs.AskedLaws.{asked_number}
 
 -- The part between a place's two ends.
 pub between_ends :
@@ -94,6 +98,9 @@ module _ (s f : List ℕ) (b : Bytes s) (q : Bytes f) (e : ℕ) where
       (⊎_elim (λ y. sym (cost_nowhere_judged s f e (word (eqb-true _ _ y)))) (λ w. sym (cost_nowhere_refused s f e (eqb-false _ _ w)))
       (truth (eqb (refusal s) 0)))
 
+  pub cost_denied : AnswerJudged s f (Ok false) → CostLocated s f e nowhere
+  cost_denied v = cost_unjudged (Ok false) v (λ y. clash {b = true} refl (sym (same_ok false true y)))
+
   -- Where the answer is judged yes and the link is there, its new cost is.
   module _ (inside : e < length (job_of s).links) (r : Result Bool Refusal) (v : AnswerJudged s f r) (yes : r ≡ Ok true) where
     pub cost_in : CostIn f e
@@ -106,3 +113,15 @@ module _ (s f : List ℕ) (b : Bytes s) (q : Bytes f) (e : ℕ) where
     cost_handed cost is w =
         let (z, (a, c)) = v.yes_means.0 yes in
         cost_located cost (is cost_in ∙ sym (cost_placed s f e a z inside (certified_judged (job_of s) (accepted s b z) c) c.layout)) w
+
+-- A finder that finds nowhere for a refusal and the cost of an accepted job has found for whatever it was handed.
+pub cost_told :
+    (f : List ℕ) → Bytes f → (e : ℕ) (a : Result Header Refusal) (b : Arrays) (place : Place) →
+    IfOk a (λ h. (s : List ℕ) → Asked s (Ok h) b → CostLocated s f e place) →
+    IfErr a (λ _. place ≡ nowhere) →
+    (s : List ℕ) →
+    Asked s a b →
+    CostLocated s f e place
+cost_told f q e (Ok h) b place said refused s k = said s k
+cost_told f q e (Err d) b place said refused s k =
+    cost_refused_nowhere s f k.bytes q e (λ z. refusal_nonzero d (sym (asked_number k) ∙ z)) place refused

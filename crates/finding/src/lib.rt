@@ -1,7 +1,7 @@
 // Finds one link's four numbers in a job frame and its new cost in an answer frame, as the frame's own bytes.
 #![tactic(auto)]
 
-ghost use Rattle.std.specs.Prelude.{◌≡◌, List, ℕ, IfErr};
+ghost use Rattle.std.specs.Prelude.{◌≡◌, List, ℕ, Ok, IfOk, IfErr};
 ghost use Rattle.frame.specs.Services.{nowhere};
 ghost use Rattle.codec.specs.Numbers.{place_of};
 ghost use Rattle.frame.specs.Arrays.{arrays};
@@ -34,7 +34,7 @@ pub fn locate_link(frame: &[u8], edge: Edge) -> Part
             length: 0,
         };
     };
-    job::link_part(frame, Ok(header), edge)
+    job::link_part(frame, Ok::<Header, Refusal>(header), edge)
 }
 
 // The bytes of a link; none if the frame is refused or has no such link.
@@ -49,8 +49,8 @@ pub fn find_link(frame: &[u8], edge: Edge) -> &[u8]
 
 // Where a link's new cost stands in the frame offered as an answer to a job in arrays; nowhere, of length 0, if the job was
 // refused, has no such link, or the offered frame is not judged yes.
-pub fn locate_cost_held(
-    accepted: Result<Header, Refusal>,
+pub fn locate_cost_held<E: Copy + From<Refusal>>(
+    accepted: Result<Header, E>,
     end1: &[u32; 256],
     end2: &[u32; 256],
     cost: &[u32; 256],
@@ -61,9 +61,9 @@ pub fn locate_cost_held(
     edge: Edge,
 ) -> Part
     requires { SomeHeld accepted (arrays end1.now end2.now cost.now mark.now ts.now mask.now) }
-    ensures located { (s : List ℕ)
-        → Asked s accepted (arrays end1.now end2.now cost.now mark.now ts.now mask.now)
-        → CostLocated s offered.now edge.0 (place_of result) }
+    ensures located { IfOk accepted (λ h. (s : List ℕ)
+        → Asked s (Ok h) (arrays end1.now end2.now cost.now mark.now ts.now mask.now)
+        → CostLocated s offered.now edge.0 (place_of result)) }
     ensures refused { IfErr accepted (λ _. place_of result ≡ nowhere) }
 {
     let e = edge.0;

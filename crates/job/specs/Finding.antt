@@ -1,5 +1,5 @@
 -- What the link finder computes, and that it finds a link's numbers. Assumes nothing.
-use Rattle.std.specs.Prelude.{ℕ, zero, suc, ◌+◌, ◌-◌, ◌*◌, ◌<◌, ◌≤◌, ◌≡◌, length, take, drop}
+use Rattle.std.specs.Prelude.{ℕ, zero, suc, ◌+◌, ◌-◌, ◌*◌, ◌<◌, ◌≤◌, ◌≡◌, length, take, drop, Result, Ok, Err, OnOk, OnErr}
 use native.Mathlib.Omega.{arith}
 use Rattle.std.proofs.Common.{sym, ap, ap₂, ◌∙◌, length-append, length-drop, ne_eqb, lt-ltb, le-ltb}
 use mathlib.Core.List.{List, flat_map}
@@ -8,7 +8,7 @@ use Rattle.number.specs.Number.{Bytes, Decoded, decode}
 use Rattle.frame.specs.Job.{bytes_of}
 use Rattle.frame.specs.Questions.{numbers}
 use Rattle.frame.specs.Meaning.{edge_count, Divides}
-use Rattle.frame.specs.Services.{nowhere, link_offset, link_length}
+use Rattle.frame.specs.Services.{Place, nowhere, link_offset, link_length}
 use Rattle.frame.specs.Replies.{link_place}
 use Rattle.frame.proofs.Division.{division}
 use Rattle.frame.proofs.RoundTrip.{job_of_lem, length_links}
@@ -18,14 +18,23 @@ use Rattle.limits.specs.Limits.{number_bytes}
 use Rattle.loops.specs.Loop.{scan}
 use Rattle.codec.specs.Numbers.{skipped, step, taken}
 use Rattle.limits.specs.declared.Refusal.{Refusal}
-use Rattle.limits.specs.Refusals.{number_of}
+use Rattle.limits.specs.Refusals.{number_of, refusal_in}
 use Rattle.limits.specs.ResultLaws.{refusal_nonzero}
 use Rattle.job.specs.Reading.{Laid}
 use Rattle.codec.specs.NumberLaws.{parts_join, drop_divides, skip_numbers}
 
 -- The finder, by the tests of the code.
-pub find_refused : (r : Refusal) (s : List ℕ) (e : ℕ) → link_place (number_of r) s e ≡ nowhere
-find_refused r s e = rw (ne_eqb (number_of r) 0 (refusal_nonzero r))
+pub find_refused : (n : ℕ) (s : List ℕ) (e : ℕ) → (n ≡ 0 → ⊥) → link_place n s e ≡ nowhere
+find_refused n s e nonzero = rw (ne_eqb n 0 nonzero)
+
+-- What is found for a header or a refusal is what the number told asks for.
+pub find_told :
+    (r : Result Header Refusal) (s : List ℕ) (e : ℕ) (place : Place) →
+    OnErr r (place ≡ nowhere) →
+    OnOk r (place ≡ link_place 0 s e) →
+    place ≡ link_place (refusal_in r) s e
+find_told (Ok h) s e place refused found = found
+find_told (Err q) s e place refused found = refused ∙ sym (find_refused (number_of q) s e (refusal_nonzero q))
 
 -- An accepted header's count is the frame's.
 pub record Found (s : List ℕ) (h : Header) : Type 0 where

@@ -1,12 +1,12 @@
 // Reads a job frame into arrays for 256 links, or refuses it by questions 1 to 3; finds one link's four numbers in it.
 #![tactic(auto)]
 
-ghost use Rattle.std.specs.Prelude.{◌≡◌, ◌+◌, ◌*◌, ◌≤◌, length, IfOk};
-ghost use Rattle.limits.specs.Refusals.{refusal_in};
+ghost use Rattle.std.specs.Prelude.{◌≡◌, ◌+◌, ◌*◌, ◌≤◌, length, IfOk, OnOk, OnErr};
 ghost use Rattle.frame.specs.Questions.{numbers, job_of, layout_refusal};
 ghost use Rattle.codec.specs.Numbers.{Divided, place_of};
 ghost use Rattle.job.specs.Reading.{links_loaded, load_links, counts_of, Headed, Laid, filled};
 ghost use Rattle.frame.specs.Arrays.{columns};
+ghost use Rattle.frame.specs.Services.{nowhere};
 ghost use Rattle.frame.specs.Replies.{link_place};
 
 use codec::{Part, number_at, skip};
@@ -112,9 +112,10 @@ pub fn load_job(
 }
 
 // Where a link's bytes stand; nowhere, of length 0, if the frame is refused or has no such link.
-pub fn link_part(frame: &[u8], accepted: Result<Header, Refusal>, edge: Edge) -> Part
+pub fn link_part<E: Copy>(frame: &[u8], accepted: Result<Header, E>, edge: Edge) -> Part
     requires { IfOk accepted (λ h. Laid frame.now h) }
-    ensures place { place_of result ≡ link_place (refusal_in accepted) frame.now edge.0 }
+    ensures refused { OnErr accepted (place_of result ≡ nowhere) }
+    ensures place { OnOk accepted (place_of result ≡ link_place 0 frame.now edge.0) }
     ensures within { result.offset + result.length ≤ length frame.now }
 {
     let Ok(header) = accepted else {

@@ -1,13 +1,12 @@
 // Writes the job frame of links held in arrays, group by group, so that its numbers need not be listed first.
 #![tactic(auto)]
 
-ghost use Rattle.std.specs.Prelude.{◌≡◌, ◌+◌, ◌<◌, ◌≤◌, length, OnOk};
-ghost use Rattle.limits.specs.Refusals.{refusal_in};
+ghost use Rattle.std.specs.Prelude.{◌≡◌, ◌+◌, ◌<◌, ◌≤◌, Err, IfErr, OnOk, length};
 ghost use Rattle.std.proofs.lemmas.List.Edits.{sets};
 ghost use Rattle.frame.specs.Job.{fields, job_frame};
 ghost use Rattle.frame.specs.Services.{written};
 ghost use Rattle.frame.specs.Arrays.{columns, link_at, job_at};
-ghost use Rattle.codec.specs.Numbers.{numbers_at, outcome};
+ghost use Rattle.codec.specs.Numbers.{numbers_at, Told, outcome};
 ghost use Rattle.job_write.specs.Groups.{group};
 
 use limits::Refusal;
@@ -104,9 +103,8 @@ fn put_frame(
     }
 }
 
-// Writes the job frame of links in arrays at a position of the area, unless they were refused before; question 7. Gives the length.
-pub fn write_job(
-    earlier: Result<(), Refusal>,
+// Writes the job frame of links in arrays at a position of the area; question 7. Gives the length.
+fn write_frame(
     nodes: u32,
     edges: usize,
     end1: &[u32; 256],
@@ -116,12 +114,10 @@ pub fn write_job(
     area: &mut [u8],
     at: usize,
 ) -> Result<usize, Refusal>
-    requires { OnOk earlier (edges ≤ 256) }
+    requires { edges ≤ 256 }
     ensures { outcome result area.new
-        ≡ written (refusal_in earlier) (job_frame (job_at nodes edges (columns end1.now end2.now cost.now mark.now))) at
-        area.old }
+        ≡ written 0 (job_frame (job_at nodes edges (columns end1.now end2.now cost.now mark.now))) at area.old }
 {
-    earlier?;
     let size = frame_size(nodes, edges, end1, end2, cost, mark);
     if area.len() < at {
         return Err(Refusal::Room);
@@ -131,4 +127,29 @@ pub fn write_job(
     }
     put_frame(area, at, nodes, edges, end1, end2, cost, mark);
     Ok(size)
+}
+
+// Writes the job frame of links in arrays at a position of the area, unless there was an error before, which is handed on;
+// question 7, in the caller's own errors. Gives the length.
+pub fn write_job<E: Copy + From<Refusal>>(
+    earlier: Result<(), E>,
+    nodes: u32,
+    edges: usize,
+    end1: &[u32; 256],
+    end2: &[u32; 256],
+    cost: &[u32; 256],
+    mark: &[u32; 256],
+    area: &mut [u8],
+    at: usize,
+) -> Result<usize, E>
+    requires { OnOk earlier (edges ≤ 256) }
+    ensures refused { IfErr earlier (λ e. (result ≡ Err e) × (area.new ≡ area.old)) }
+    ensures written { OnOk earlier (Told E.from_gives result (λ r. outcome r area.new
+        ≡ written 0 (job_frame (job_at nodes edges (columns end1.now end2.now cost.now mark.now))) at area.old)) }
+{
+    if earlier.is_err() {
+        return earlier.map(|_| 0);
+    }
+    let length = write_frame(nodes, edges, end1, end2, cost, mark, area, at)?;
+    Ok(length)
 }

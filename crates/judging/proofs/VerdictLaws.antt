@@ -1,6 +1,6 @@
 -- A verdict by the definition means what it should. Assumes nothing.
-use Rattle.std.specs.Prelude.{ℕ, ◌≡◌, refl, ◌↔◌, Bool, true, false, List, Result, Ok, Err, IfErr}
-use Rattle.std.proofs.Common.{sym, ap, ◌∙◌, ⊎_elim}
+use Rattle.std.specs.Prelude.{ℕ, ◌≡◌, refl, ◌↔◌, Bool, true, false, List, Result, Ok, Err, IfOk, IfErr, IsOkAnd}
+use Rattle.std.proofs.Common.{sym, ap, subst, ◌∙◌, ⊎_elim}
 use Rattle.loops.specs.TestLaws.{truth, clash}
 use Rattle.limits.specs.declared.Refusal.{Refusal}
 use Rattle.limits.specs.Refusals.{number_of, refusal_in}
@@ -11,6 +11,10 @@ use Rattle.frame.specs.Answers.{judge_tree, judge_answer}
 use Rattle.frame.proofs.Form.{first_no}
 use Rattle.frame.proofs.Accepted.{accepted}
 use Rattle.frame.proofs.AnswerJudge.{tree_judged, answer_judged}
+use Rattle.frame.specs.Arrays.{Arrays}
+use Rattle.job.specs.declared.Header.{Header}
+use Rattle.accept.specs.Accepting.{Asked}
+use Rattle.accept.specs.AskedLaws.{asked_number}
 use Rattle.judging.specs.Verdicts.{Verdict, VerdictOn, TreeJudged, AnswerJudged}
 
 -- A word that is true exactly if P holds is false exactly if it does not.
@@ -65,3 +69,35 @@ refused_judged s b word P q e =
       yes_means = (λ y. absurd (ok-err true q (sym y)), λ h. absurd (refusal_nonzero q (sym e ∙ h.0)));
       no_means = (λ y. absurd (ok-err false q (sym y)), λ h. absurd (refusal_nonzero q (sym e ∙ h.0)));
     }
+
+-- A judge that hands a refusal on and judges an accepted job has a verdict on whatever it was handed.
+told :
+    (Judged : List ℕ → Result Bool Refusal → Type 0) →
+    ((s : List ℕ) (q : Refusal) → Bytes s → refusal s ≡ number_of q → Judged s (Err q)) →
+    (a : Result Header Refusal) (b : Arrays) (r : Result Bool Refusal) →
+    IfOk a (λ h. (s : List ℕ) → Asked s (Ok h) b → IsOkAnd r (λ w. Judged s (Ok w))) →
+    IfErr a (λ q. r ≡ Err q) →
+    (s : List ℕ) →
+    Asked s a b →
+    Judged s r
+told Judged handed (Ok h) b (Ok w) said refused s k = said s k
+told Judged handed (Ok h) b (Err q) said refused s k = absurd (said s k)
+told Judged handed (Err q) b r said refused s k = subst (Judged s) (sym refused) (handed s q k.bytes (asked_number k))
+
+pub tree_told :
+    (a : Result Header Refusal) (b : Arrays) (r : Result Bool Refusal) →
+    IfOk a (λ h. (s : List ℕ) → Asked s (Ok h) b → IsOkAnd r (λ w. TreeJudged s (Ok w))) →
+    IfErr a (λ q. r ≡ Err q) →
+    (s : List ℕ) →
+    Asked s a b →
+    TreeJudged s r
+tree_told = told TreeJudged (λ s q bytes e. refused_judged s bytes _ _ q e)
+
+pub answer_told :
+    (f : List ℕ) (a : Result Header Refusal) (b : Arrays) (r : Result Bool Refusal) →
+    IfOk a (λ h. (s : List ℕ) → Asked s (Ok h) b → IsOkAnd r (λ w. AnswerJudged s f (Ok w))) →
+    IfErr a (λ q. r ≡ Err q) →
+    (s : List ℕ) →
+    Asked s a b →
+    AnswerJudged s f r
+answer_told f = told (λ s. AnswerJudged s f) (λ s q bytes e. refused_judged s bytes _ _ q e)

@@ -1,7 +1,7 @@
 // Judges the marked tree of a job, and answer frames made elsewhere: yes, no, or the first refusal of questions 1 to 6.
 #![tactic(auto)]
 
-ghost use Rattle.std.specs.Prelude.{◌≡◌, List, ℕ, Err, IfErr};
+ghost use Rattle.std.specs.Prelude.{◌≡◌, List, ℕ, Ok, Err, IfOk, IfErr, IsOkAnd};
 ghost use Rattle.frame.specs.Arrays.{arrays};
 ghost use Rattle.accept.specs.Accepting.{Asked, SomeHeld};
 ghost use Rattle.judging.specs.Verdicts.{TreeJudged, AnswerJudged};
@@ -11,19 +11,19 @@ use job::Header;
 use limits::Refusal;
 
 // Is the marked tree of a job in arrays cheapest?
-pub fn judge_held(
-    accepted: Result<Header, Refusal>,
+pub fn judge_held<E: Copy + From<Refusal>>(
+    accepted: Result<Header, E>,
     end1: &[u32; 256],
     end2: &[u32; 256],
     cost: &[u32; 256],
     mark: &[u32; 256],
     ts: &[u32; 256],
     mask: &[u64; 64],
-) -> Result<bool, Refusal>
+) -> Result<bool, E>
     requires { SomeHeld accepted (arrays end1.now end2.now cost.now mark.now ts.now mask.now) }
-    ensures judged { (s : List ℕ)
-        → Asked s accepted (arrays end1.now end2.now cost.now mark.now ts.now mask.now)
-        → TreeJudged s result }
+    ensures judged { IfOk accepted (λ h. (s : List ℕ)
+        → Asked s (Ok h) (arrays end1.now end2.now cost.now mark.now ts.now mask.now)
+        → IsOkAnd result (λ b. TreeJudged s (Ok b))) }
     ensures refused { IfErr accepted (λ r. result ≡ Err r) }
 {
     let header = match accepted {
@@ -55,8 +55,8 @@ pub fn judge(frame: &[u8]) -> Result<bool, Refusal>
 }
 
 // Does a frame hold an answer to a job in arrays, with its costs and its pairing?
-pub fn judge_answer_held(
-    accepted: Result<Header, Refusal>,
+pub fn judge_answer_held<E: Copy + From<Refusal>>(
+    accepted: Result<Header, E>,
     end1: &[u32; 256],
     end2: &[u32; 256],
     cost: &[u32; 256],
@@ -64,11 +64,11 @@ pub fn judge_answer_held(
     ts: &[u32; 256],
     mask: &[u64; 64],
     offered: &[u8],
-) -> Result<bool, Refusal>
+) -> Result<bool, E>
     requires { SomeHeld accepted (arrays end1.now end2.now cost.now mark.now ts.now mask.now) }
-    ensures judged { (s : List ℕ)
-        → Asked s accepted (arrays end1.now end2.now cost.now mark.now ts.now mask.now)
-        → AnswerJudged s offered.now result }
+    ensures judged { IfOk accepted (λ h. (s : List ℕ)
+        → Asked s (Ok h) (arrays end1.now end2.now cost.now mark.now ts.now mask.now)
+        → IsOkAnd result (λ b. AnswerJudged s offered.now (Ok b))) }
     ensures refused { IfErr accepted (λ r. result ≡ Err r) }
 {
     let counts = match accepted {
