@@ -16,7 +16,7 @@
  *     ist_judge_answer   8,100    ist_judge_answer_list  16,300
  *     ist_find_link      6,500    ist_find_cost_list     16,300
  *     ist_find_cost      8,200    ist_write_job          16,300
- *     ist_read_job      13,700    ist_read_answer        12,900
+ *     ist_read_job      13,700    ist_read_answer        11,300
  *     ist_sheet          7,600    ist_apply_sheet         6,600
  *     ist_replay         8,200
  *
