@@ -1,5 +1,5 @@
 -- The copying services by the steps of the code: what was read, and whether it fits. Assumes nothing.
-use Rattle.std.specs.Prelude.{ℕ, ◌*◌, ◌<◌, ◌≤◌, ◌≡◌, refl, true, false, Some, None, Ok, Err, length, take}
+use Rattle.std.specs.Prelude.{ℕ, ◌*◌, ◌<◌, ◌≤◌, ◌≡◌, refl, true, false, Option, Some, None, Result, Ok, Err, length, take}
 use Rattle.std.proofs.Common.{arith, sym, ap, ◌∙◌, le-leb}
 use mathlib.Core.List.{List, [], ◌∷◌, map, flat_map}
 use Rattle.std.proofs.lemmas.List.Edits.{sets}
@@ -30,6 +30,7 @@ use Rattle.reading.specs.JobsRead.{JobGiven}
 use Rattle.reading.specs.AnswersRead.{answer_of_read, AnswerGiven}
 use Rattle.reading.specs.AnswerReadLaws.{pairs_most}
 use Rattle.filling.specs.Filling.{link_numbers}
+use Rattle.copying.specs.declared.AnswerCopy.{AnswerCopy}
 use Rattle.copying.specs.Copies.{JobCopied, pair_numbers, fit, copy_of, answer_into, AnswerCopied}
 
 -- ---- jobs
@@ -98,6 +99,48 @@ edges_of s b k e = sym (counts_passed s b k e).edges
 pub counts_there : (s : List ℕ) (q : Refusal) → Err q ≡ counts_of (numbers s) → refusal s ≡ 0 → ⊥
 counts_there s q e z = refusal_nonzero q ((counts_refused s q e).number ∙ accepted_layout s z)
 
+-- An answer that was read, put into arrays.
+module _ (r : AnswerRead) (m : ℕ) (room₁ room₂ : List ℕ) where
+  costs_size : length (numbers_at m r.costs) ≡ m
+  costs_size = length_tabulate _ m
+
+  pairs_size : length (pair_numbers (pairs_at r.count r.pairs)) ≡ 2 * r.count
+  pairs_size = length_both _ ∙ ap (λ (k : ℕ). 2 * k) (length_tabulate _ r.count)
+
+  -- An array that is too short.
+  pub costs_short : length room₁ < m → copy_of (Err Room) room₁ room₂ ≡ answer_into (answer_of_read m r) room₁ room₂
+  costs_short l =
+      let unfit : fit (answer_of_read m r) room₁ room₂ ≡ false = rw
+      (lt-leb (length (numbers_at m r.costs)) (length room₁) (omega (arith, l, costs_size))) refl in
+      rw unfit refl
+
+  pub pairs_short : m ≤ length room₁ → length room₂ < 2 * r.count → copy_of (Err Room) room₁ room₂ ≡ answer_into (answer_of_read m r) room₁ room₂
+  pairs_short k l =
+      let unfit : fit (answer_of_read m r) room₁ room₂ ≡ false
+      = rw (
+        le-leb (length (numbers_at m r.costs)) (length room₁) (omega (arith, k, costs_size)),
+        lt-leb (length (pair_numbers (pairs_at r.count r.pairs))) (length room₂) (omega (arith, l, pairs_size)),
+      ) refl in
+      rw unfit refl
+
+  -- Arrays that are long enough.
+  pub answer_put :
+      m ≤ length room₁ → 2 * r.count ≤ length room₂ → (after₁ after₂ : List ℕ)
+      → after₁ ≡ sets room₁ 0 (numbers_at m r.costs)
+      → after₂ ≡ sets room₂ 0 (numbers_at (2 * r.count) r.pairs)
+      → copy_of (Ok (Some (record { steps = r.steps; costs = m; pairs = r.count }))) after₁ after₂ ≡ answer_into (answer_of_read m r) room₁ room₂
+  answer_put k l after₁ after₂ e₁ e₂ =
+      let ps = pairs_at r.count r.pairs in
+      let fits : fit (answer_of_read m r) room₁ room₂ ≡ true
+      = rw (
+        le-leb (length (numbers_at m r.costs)) (length room₁) (omega (arith, k, costs_size)),
+        le-leb (length (pair_numbers ps)) (length room₂) (omega (arith, l, pairs_size)),
+      ) refl in
+      let counts : _ ≡ length ps = sym (length_tabulate (pair_from r.pairs) r.count) in
+      let second = e₂ ∙ ap (sets room₂ 0) (sym (pair_numbers_lem r.pairs r.count)) in
+      rw fits
+      (λ i. copy_of (Ok (Some (record { steps = r.steps; costs = sym costs_size i; pairs = counts i }))) (e₁ i) (second i))
+
 module _ (s f room₁ room₂ : List ℕ) where
   -- A frame that is refused, and one that is judged no.
   pub copy_withheld : (q : Refusal) → AnswerGiven s f (Err q) → AnswerCopied s f room₁ room₂ (Err q) room₁ room₂
@@ -124,14 +167,8 @@ module _ (s f room₁ room₂ : List ℕ) where
       pub costs_few : Bytes s → m ≤ 256
       costs_few b = omega (arith, e, (accepted s b accepted_job).edge_limit)
 
-      costs_size : length (numbers_at m r.costs) ≡ m
-      costs_size = length_tabulate _ m
-
-      pairs_size : length (pair_numbers (pairs_at r.count r.pairs)) ≡ 2 * r.count
-      pairs_size = length_both _ ∙ ap (λ (k : ℕ). 2 * k) (length_tabulate _ r.count)
-
-      copied_as :
-          (x : _) (after₁ after₂ : List ℕ) →
+      pub copied_as :
+          (x : Result (Option AnswerCopy) Refusal) (after₁ after₂ : List ℕ) →
           copy_of x after₁ after₂ ≡ answer_into (answer_of_read m r) room₁ room₂ →
           AnswerCopied s f room₁ room₂ x after₁ after₂
       copied_as x after₁ after₂ t =
@@ -139,19 +176,10 @@ module _ (s f room₁ room₂ : List ℕ) where
 
       -- An array that is too short.
       pub costs_unfit : length room₁ < m → AnswerCopied s f room₁ room₂ (Err Room) room₁ room₂
-      costs_unfit l =
-          let unfit : fit (answer_of_read m r) room₁ room₂ ≡ false = rw
-          (lt-leb (length (numbers_at m r.costs)) (length room₁) (omega (arith, l, costs_size))) refl in
-          copied_as (Err Room) room₁ room₂ (rw unfit refl)
+      costs_unfit l = copied_as (Err Room) room₁ room₂ (costs_short r m room₁ room₂ l)
 
       pub pairs_unfit : m ≤ length room₁ → length room₂ < 2 * r.count → AnswerCopied s f room₁ room₂ (Err Room) room₁ room₂
-      pairs_unfit k l =
-          let unfit : fit (answer_of_read m r) room₁ room₂ ≡ false
-          = rw (
-            le-leb (length (numbers_at m r.costs)) (length room₁) (omega (arith, k, costs_size)),
-            lt-leb (length (pair_numbers (pairs_at r.count r.pairs))) (length room₂) (omega (arith, l, pairs_size)),
-          ) refl in
-          copied_as (Err Room) room₁ room₂ (rw unfit refl)
+      pairs_unfit k l = copied_as (Err Room) room₁ room₂ (pairs_short r m room₁ room₂ k l)
 
       -- Arrays that are long enough.
       pub answer_fit :
@@ -159,15 +187,4 @@ module _ (s f room₁ room₂ : List ℕ) where
           → after₁ ≡ sets room₁ 0 (numbers_at m r.costs)
           → after₂ ≡ sets room₂ 0 (numbers_at (2 * r.count) r.pairs)
           → AnswerCopied s f room₁ room₂ (Ok (Some (record { steps = r.steps; costs = m; pairs = r.count }))) after₁ after₂
-      answer_fit k l after₁ after₂ e₁ e₂ =
-          let ps = pairs_at r.count r.pairs in
-          let fits : fit (answer_of_read m r) room₁ room₂ ≡ true
-          = rw (
-            le-leb (length (numbers_at m r.costs)) (length room₁) (omega (arith, k, costs_size)),
-            le-leb (length (pair_numbers ps)) (length room₂) (omega (arith, l, pairs_size)),
-          ) refl in
-          let counts : _ ≡ length ps = sym (length_tabulate (pair_from r.pairs) r.count) in
-          let second = e₂ ∙ ap (sets room₂ 0) (sym (pair_numbers_lem r.pairs r.count)) in
-          copied_as _ after₁ after₂
-          (rw fits
-          (λ i. copy_of (Ok (Some (record { steps = r.steps; costs = sym costs_size i; pairs = counts i }))) (e₁ i) (second i)))
+      answer_fit k l after₁ after₂ e₁ e₂ = copied_as _ after₁ after₂ (answer_put r m room₁ room₂ k l after₁ after₂ e₁ e₂)

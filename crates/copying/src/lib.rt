@@ -2,9 +2,12 @@
 // costs one each, the pairs two each.
 #![tactic(auto)]
 
-ghost use Rattle.copying.specs.Copies.{JobCopied, AnswerCopied};
+ghost use Rattle.std.specs.Prelude.{◌≡◌, ◌≤◌};
+ghost use Rattle.reading.specs.AnswersRead.{answer_of_read};
+ghost use Rattle.copying.specs.Copies.{JobCopied, copy_of, answer_into, AnswerCopied};
 
 use limits::Refusal;
+use reading::AnswerRead;
 
 // What is said of a job that was copied: the station count and the link count.
 #[derive(Clone, Copy)]
@@ -37,6 +40,36 @@ pub struct AnswerCopy {
     pub pairs: usize,
 }
 
+// Puts an answer that was read, to a job of so many links, into the arrays. Refusal 7 if either is too short.
+fn put_answer(
+    read: AnswerRead,
+    edges: usize,
+    costs: &mut [u32],
+    pairs: &mut [u32],
+) -> Result<Option<AnswerCopy>, Refusal>
+    requires edges_bound { edges ≤ 256 }
+    requires count_bound { read.count ≤ 64 }
+    ensures { copy_of result costs.new pairs.new ≡ answer_into (answer_of_read edges read) costs.old pairs.old }
+{
+    let count = read.count;
+    if costs.len() < edges {
+        return Err(Refusal::Room);
+    }
+    if pairs.len() / 2 < count {
+        return Err(Refusal::Room);
+    }
+    // Each array on its own: lent as parts of `read`, they take a second one of it on the stack.
+    let all = read.costs;
+    filling::copy_numbers(&all, edges, costs);
+    let numbers = read.pairs;
+    filling::copy_numbers(&numbers, 2 * count, pairs);
+    Ok(Some(AnswerCopy {
+        steps: read.steps,
+        costs: edges,
+        pairs: count,
+    }))
+}
+
 // Judges the second frame as an answer to the job of the first; if it is one, reads it into the arrays. Refusal 7 if either is
 // too short.
 pub fn copy_answer(
@@ -48,22 +81,11 @@ pub fn copy_answer(
     ensures { AnswerCopied frame.now offered.now costs.old pairs.old result costs.new
         pairs.new }
 {
-    let Some(read) = reading::read_answer(frame, offered)? else {
-        return Ok(None);
-    };
-    let edges = job::read_counts(frame)?.edges as usize;
-    let count = read.count;
-    if costs.len() < edges {
-        return Err(Refusal::Room);
+    match reading::read_answer(frame, offered)? {
+        Some(read) => {
+            let edges = job::read_counts(frame)?.edges as usize;
+            put_answer(read, edges, costs, pairs)
+        }
+        None => Ok(None),
     }
-    if pairs.len() / 2 < count {
-        return Err(Refusal::Room);
-    }
-    filling::copy_numbers(&read.costs, edges, costs);
-    filling::copy_numbers(&read.pairs, 2 * count, pairs);
-    Ok(Some(AnswerCopy {
-        steps: read.steps,
-        costs: edges,
-        pairs: count,
-    }))
 }

@@ -1,5 +1,5 @@
 -- An answer read into arrays of zeros stands there whole, and is the answer that the frame holds. Assumes nothing.
-use Rattle.std.specs.Prelude.{ℕ, zero, suc, ◌+◌, ◌*◌, ◌<◌, ◌≤◌, ◌≡◌, refl, true, false, Some, None, Ok, Err, length, get_or}
+use Rattle.std.specs.Prelude.{ℕ, zero, suc, ◌+◌, ◌*◌, ◌<◌, ◌≤◌, ◌≡◌, refl, Bool, true, false, Option, Some, None, Result, Ok, Err, length, get_or}
 use Rattle.std.proofs.Math.Decide.{dec_lt}
 use Rattle.std.proofs.Common.{arith, sym, ap, subst, ◌∙◌, ext_get_or}
 use mathlib.Core.List.{List, [], ◌∷◌, flat_map}
@@ -12,8 +12,8 @@ use Rattle.optimum.specs.Optimum.{Pair, both, Answer}
 use Rattle.optimum.specs.PairLaws.{rising_count}
 use Rattle.number.specs.Number.{Bytes}
 use Rattle.frame.specs.Job.{Job, tree_of}
-use Rattle.frame.specs.Questions.{job_of}
-use Rattle.frame.specs.Answers.{no_pair, pair_from, read_answer}
+use Rattle.frame.specs.Questions.{job_of, refusal}
+use Rattle.frame.specs.Answers.{no_pair, pair_from, read_answer, judge_answer}
 use Rattle.frame.specs.Meaning.{Accepted}
 use Rattle.frame.proofs.Accepted.{accepted}
 use Rattle.frame.specs.AnswerMeaning.{Certified}
@@ -26,8 +26,9 @@ use Rattle.answer_read.specs.declared.Contents.{Contents}
 use Rattle.answer_read.specs.Reading.{contents, few, Behind}
 use Rattle.answer_read.specs.AnswerLaws.{found_answer, missed_answer}
 use Rattle.limits.specs.declared.Refusal.{Refusal}
-use Rattle.judging.specs.Verdicts.{AnswerJudged}
-use Rattle.reading.specs.AnswersRead.{answer_read, answer_of_read, AnswerGiven}
+use Rattle.judging.specs.Verdicts.{Verdict, AnswerJudged}
+use Rattle.judging.proofs.VerdictLaws.{answer_judged_of}
+use Rattle.reading.specs.AnswersRead.{answer_read, read_of, answer_of_read, AnswerGiven}
 use Rattle.reading.specs.declared.AnswerRead.{AnswerRead}
 
 -- An array that agrees with f at the first m places and says 0 behind them.
@@ -135,8 +136,8 @@ module _ (s f : List ℕ) (b : Bytes s) (v : AnswerJudged s f (Ok true)) where
   pub held_few : length answer_there.0.pairs ≤ 64
   held_few = pairs_most (job_of s) (accepted s b (v.yes_means.0 refl).0) answer_there.1
 
-  pub answer_given : (g : AnswerRead) → g ≡ answer_read answer_there.0 → AnswerGiven s f (Ok (Some g))
-  answer_given g is =
+  pub answer_shown : (g : AnswerRead) → g ≡ answer_read answer_there.0 → AnswerGiven s f (Ok (Some g))
+  answer_shown g is =
       let m = length (job_of s).links in
       let k = accepted s b (v.yes_means.0 refl).0 in
       let back = answer_back m answer_there.0 answer_there.1.layout.count k.edge_limit held_few in
@@ -150,3 +151,19 @@ answer_denied s f v = record { judged = v; said = tt; answer = tt; again = tt }
 
 pub answer_withheld : (s f : List ℕ) (q : Refusal) → AnswerJudged s f (Err q) → AnswerGiven s f (Err q)
 answer_withheld s f q v = record { judged = v; said = tt; answer = tt; again = tt }
+
+-- What is read of any frame that is offered, by the verdict on it and by what it holds.
+module _ (s f : List ℕ) (b : Bytes s) (q : Bytes f) where
+  given_of :
+      (v : Result Bool Refusal) → AnswerJudged s f v → AnswerGiven s f (read_of v (read_answer (length (job_of s).links) f))
+  unfolding read_of
+  given_of (Ok true) v = rw (held_read s f b v) (answer_shown s f b v _ refl)
+  given_of (Ok false) v = answer_denied s f v
+  given_of (Err r) v = answer_withheld s f r v
+
+  pub answer_given :
+      (v : Result Bool Refusal) (r : Result (Option AnswerRead) Refusal) →
+      Verdict (refusal s) (judge_answer (job_of s) f) v →
+      r ≡ read_of v (read_answer (length (job_of s).links) f) →
+      AnswerGiven s f r
+  answer_given v r e is = rw is (given_of v (answer_judged_of s b f q v e))

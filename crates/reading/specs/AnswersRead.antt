@@ -1,5 +1,5 @@
 -- What is read of a frame that is offered as the answer to a job frame. Definitions only. Assumes nothing.
-use Rattle.std.specs.Prelude.{ℕ, ◌≡◌, Bool, Option, Result, Ok, Err, IfOk, IfSome, is_some, length}
+use Rattle.std.specs.Prelude.{ℕ, ◌≡◌, Bool, true, false, Option, Some, None, Result, Ok, Err, IfOk, IfSome, is_some, length}
 use mathlib.Core.List.{List, flat_map}
 use Rattle.std.proofs.Math.Option as maybe
 use Rattle.limits.specs.declared.Refusal.{Refusal}
@@ -21,6 +21,13 @@ answer_read a =
       count = length a.pairs;
       pairs = numbers_at 128 (flat_map both a.pairs);
     }
+
+-- What the frame holds, if the verdict on it is yes; else the verdict alone.
+unfoldable pub read_of : Result Bool Refusal → maybe.Option Answer → Result (Option AnswerRead) Refusal
+read_of (Ok true) (maybe.some a) = Ok (Some (answer_read a))
+read_of (Ok true) maybe.none = Ok None
+read_of (Ok false) o = Ok None
+read_of (Err q) o = Err q
 
 -- The answer to a job of m links that was read.
 abbrev pub answer_of_read : ℕ → AnswerRead → Answer

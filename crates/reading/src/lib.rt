@@ -56,12 +56,14 @@ pub fn read_job(frame: &[u8]) -> Result<JobRead, Refusal>
     let accepted = accept(
         frame, &mut end1, &mut end2, &mut cost, &mut mark, &mut ts, &mut mask, false,
     );
-    let header = accepted?;
-    Ok(JobRead {
-        nodes: header.nodes,
-        count: header.edges as usize,
-        links: gather(&end1, &end2, &cost, &mark),
-    })
+    match accepted {
+        Ok(header) => Ok(JobRead {
+            nodes: header.nodes,
+            count: header.edges as usize,
+            links: gather(&end1, &end2, &cost, &mark),
+        }),
+        Err(refusal) => Err(refusal),
+    }
 }
 
 // An answer read from a frame: the steps, the new cost of each link, and so many pairs, tree link and spare link by turns; zeros
@@ -103,7 +105,10 @@ pub fn read_answer(frame: &[u8], offered: &[u8]) -> Result<Option<AnswerRead>, R
     let accepted = accept(
         frame, &mut end1, &mut end2, &mut cost, &mut mark, &mut ts, &mut mask, true,
     );
-    let counts = accepted?;
+    let counts = match accepted {
+        Ok(counts) => counts,
+        Err(refusal) => return Err(refusal),
+    };
     let certified = judge_answer_held(accepted, &end1, &end2, &cost, &mark, &ts, &mask, offered)?;
     if !certified {
         return Ok(None);

@@ -1,38 +1,51 @@
 -- `reading::read_answer` meets its contract: the frame is judged, and read if it is an answer. Assumes nothing.
-use Rattle.std.specs.Prelude.{true, Ok}
+use Rattle.std.specs.Prelude.{ℕ, ◌≡◌, ◌≤◌, true, List, Option, Some, Ok, length}
 use Rattle.std.proofs.Common.{refl, sym, ap, ◌∙◌}
-use Rattle.std.proofs.lemmas.Result.{err_from_is_err_and}
+use Rattle.std.proofs.Math.Option as maybe
+use Rattle.optimum.specs.Optimum.{Answer}
+use Rattle.number.specs.Number.{Bytes}
+use Rattle.frame.specs.Questions.{job_of}
 use Rattle.frame.specs.Answers.{read_answer}
 use Rattle.frame.specs.Arrays.{arrays}
 use Rattle.accept.specs.Accepting.{Asked}
 use Rattle.accept.specs.AcceptLaws.{accepted_edges}
 use Rattle.judging.specs.Verdicts.{AnswerJudged}
 use Rattle.judging.proofs.VerdictLaws.{refused_judged}
-use Rattle.reading.specs.AnswerReadLaws.{answer_there, held_read, held_few, answer_given, answer_withheld}
+use Rattle.reading.specs.declared.AnswerRead.{AnswerRead}
+use Rattle.reading.specs.AnswersRead.{answer_read, AnswerGiven}
+use Rattle.reading.specs.AnswerReadLaws.{answer_there, held_read, held_few, answer_shown, answer_withheld}
 use Rattle.reading.proofs.read_answer.Goals as goal
 
-pub returns-in_err-counts : goal.returns-in_err-counts
-returns-in_err-counts c =
+pub returns-in-Err : goal.returns-in-Err
+returns-in-Err c =
     let s = c.args.frame.now in
-    let q = c.in_err-counts.field-0.0 in
-    let p = err_from_is_err_and c.from_residual.result c.from_residual.ensures.1 in
-    rw (p.1, p.2)
-    (answer_withheld s c.args.offered.now q
-    (refused_judged s (λ i. (c.type_inv.frame i).fits) _ _ q (sym c.in_err-counts.ensures.header.number)))
+    let q = c.in-Err.refusal in
+    answer_withheld s c.args.offered.now q
+    (refused_judged s (λ i. (c.type_inv.frame i).fits) _ _ q (sym c.in-Err.ensures.header.number))
+
+-- what is read of a frame that is judged yes
+shown :
+    (s f : List ℕ) →
+    Bytes s →
+    AnswerJudged s f (Ok true) →
+    (m : ℕ) →
+    m ≡ length (job_of s).links →
+    (o : Option AnswerRead) →
+    ((a : Answer) → read_answer m f ≡ maybe.some a → length a.pairs ≤ 64 → o ≡ Some (answer_read a)) →
+    AnswerGiven s f (Ok o)
+shown s f b v m e o h =
+    let is = h (answer_there s f b v).0 (ap (λ m. read_answer m f) e ∙ held_read s f b v) (held_few s f b v) in
+    rw is (answer_shown s f b v _ refl)
 
 pub returns : goal.returns
 returns c =
     let s = c.args.frame.now in
-    let f = c.args.offered.now in
     let n = c.accept-accepted.new in
-    let k : Asked s c.accept-accepted.result (arrays n.end1 n.end2 n.cost n.mark n.ts n.mask)
+    let k : Asked s (Ok c.in-Ok.counts) (arrays n.end1 n.end2 n.cost n.mark n.ts n.mask)
     = record {
       bytes = λ i. (c.type_inv.frame i).fits;
-      headed = c.accept-accepted.ensures.header;
-      held = c.accept-accepted.ensures.job;
+      headed = c.in-Ok.ensures.header;
+      held = c.in-Ok.ensures.job;
     } in
-    let links = accepted_edges s c.in_ok-counts.counts c.in_ok-counts.ensures.header in
-    let v : AnswerJudged s f (Ok true) = rw c.if-not-certified.false at c.in_ok-certified.ensures.judged s k in
-    let is = c.read_contents.ensures (answer_there s f k.bytes v).0
-    (ap (λ m. read_answer m f) links ∙ held_read s f k.bytes v) (held_few s f k.bytes v) in
-    rw is (answer_given s f k.bytes v _ refl)
+    shown s c.args.offered.now k.bytes (rw c.if-not-certified.false at c.in_ok-certified.ensures.judged s k) _
+    (accepted_edges s c.in-Ok.counts k.headed) _ c.read_contents.ensures
