@@ -11,7 +11,7 @@
  * - a pointer is never null, not even for an empty vector: there pass any aligned pointer that is not null, as that of an array
  *   of one element, with length 0;
  * - enough stack. Measured on x86-64 (bench/stack), rounded up to the next 100 bytes:
- *     ist_answer        12,800    ist_answer_list        17,000
+ *     ist_answer        12,800    ist_answer_list        16,900
  *     ist_judge          8,100    ist_judge_list         16,300
  *     ist_judge_answer   8,100    ist_judge_answer_list  16,300
  *     ist_find_link      6,500    ist_find_cost_list     16,300

@@ -15,7 +15,8 @@ use limits::Refusal;
 use solve::solve;
 
 // Writes the answer to an accepted job in arrays into the area and gives its length, or refuses it by question 7 and writes
-// nothing.
+// nothing. Never put into its caller, which would take 16 bytes of stack more.
+#[inline(never)]
 fn answer_job(
     header: Header,
     end1: &mut [u32; 256],
