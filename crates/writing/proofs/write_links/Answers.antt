@@ -1,8 +1,8 @@
 -- `writing::write_links` meets its contract: the writer's core is handed the refusal, or the job in the arrays. Assumes nothing.
-use mathlib.Core.Path.{ap}
+use Rattle.std.specs.Prelude.{Err}
 use Rattle.std.proofs.Common.{rules}
-use Rattle.limits.specs.Refusals.{refusal_in, size_in}
 use Rattle.codec.specs.WritingLaws.{told_outcome}
+use Rattle.answering.specs.AnswerLaws.{untouched_told}
 use Rattle.listed.proofs.ListServiceLaws.{given_few, given_written}
 use Rattle.writing.proofs.write_links.Goals as goal
 use Rattle.writing.proofs.write_links.Goals.{in-Ok, in-Err}
@@ -25,7 +25,6 @@ returns c =
           given_written (rw w.in-Ok.is at list) area r after
           (told_outcome r after _ (rw w.earlier-is at c.write_job.ensures.written)) tt
       | in-Err w ↦
-          let (is, same) = rw w.earlier-is at c.write_job.ensures.refused in
           given_written (rw w.in-Err.is at list) area r after tt
-          (record { number = ap refusal_in is; nothing = ap size_in is; same = same })
+          (untouched_told (Err w.in-Err.refusal) area r after (rw w.earlier-is at c.write_job.ensures.refused))
     ]
