@@ -154,16 +154,12 @@ answer_withheld s f q v = record { judged = v; said = tt; answer = tt; again = t
 
 -- What is read of any frame that is offered, by the verdict on it and by what it holds.
 module _ (s f : List ℕ) (b : Bytes s) (q : Bytes f) where
-  given_of :
-      (v : Result Bool Refusal) → AnswerJudged s f v → AnswerGiven s f (read_of v (read_answer (length (job_of s).links) f))
-  unfolding read_of
-  given_of (Ok true) v = rw (held_read s f b v) (answer_shown s f b v _ refl)
-  given_of (Ok false) v = answer_denied s f v
-  given_of (Err r) v = answer_withheld s f r v
-
   pub answer_given :
       (v : Result Bool Refusal) (r : Result (Option AnswerRead) Refusal) →
       Verdict (refusal s) (judge_answer (job_of s) f) v →
       r ≡ read_of v (read_answer (length (job_of s).links) f) →
       AnswerGiven s f r
-  answer_given v r e is = rw is (given_of v (answer_judged_of s b f q v e))
+  unfolding read_of
+  answer_given (Ok true) r e is = let v = answer_judged_of s b f q (Ok true) e in rw (is, held_read s f b v) (answer_shown s f b v _ refl)
+  answer_given (Ok false) r e is = rw is (answer_denied s f (answer_judged_of s b f q (Ok false) e))
+  answer_given (Err x) r e is = rw is (answer_withheld s f x (answer_judged_of s b f q (Err x) e))

@@ -3,7 +3,7 @@
 use Prim.Native.Nat.{ℕ, zero, suc, ◌≤◌}
 use Rattle.std.proofs.Common.{arith, ◌∙◌, inl, inr, eq-eqb, ne_eqb}
 use Rattle.std.specs.Prelude as prelude
-use Rattle.std.specs.Prelude.{◌≡◌, refl, ◌⊎◌, Bool, List, [], Result, Ok, Err, ltb, length, take, drop}
+use Rattle.std.specs.Prelude.{◌≡◌, refl, ◌⊎◌, Bool, List, [], None, Some, Result, Ok, Err, ltb, length, take, drop}
 use Rattle.std.proofs.Math.Path.{sym, ap, fun_ext}
 use Rattle.std.proofs.Math.Bool.{cond}
 use Rattle.std.proofs.Math.Option.{Option, some, none, map, get_or}
@@ -19,7 +19,7 @@ use Rattle.limits.specs.declared.Refusal.{Refusal}
 use Rattle.limits.specs.declared.Refusal.TheVariants.{Log}
 use Rattle.limits.specs.Refusals.{number_of, refusal_in}
 use Rattle.limits.specs.ResultLaws.{refusal_nonzero}
-use Rattle.codec.specs.Numbers.{numbers_at}
+use Rattle.codec.specs.Numbers.{numbers_at, outcome}
 use Rattle.codec.specs.WritingLaws.{put_refused}
 use Rattle.job.specs.declared.Header.{Header}
 use Rattle.accept.specs.Accepting.{Asked}
@@ -35,6 +35,14 @@ use Rattle.watch.specs.Watching.{none_at, HeardSoFar}
 use Rattle.replaying.specs.Replayed.{packets_told, first_told, replay_outcome, replay_for, replay_refusal, first_in, first_for}
 use Rattle.replaying.specs.Replayed.{when_left, with_first}
 use Rattle.replaying.specs.HeldCounts.{cheapest_held}
+
+-- ---- the first number
+
+pub when_never : (v count : ℕ) → (v ≡ 0 → ⊥) → None ≡ when_left v count
+when_never v count n = rw (ne_eqb v 0 n)
+
+pub when_after : (v count : ℕ) → v ≡ 0 → Some count ≡ when_left v count
+when_after v count e = rw e
 
 -- ---- a refusal
 
@@ -142,11 +150,23 @@ module _ {s : List ℕ} {h : Header} {a : Arrays} (k : Asked s (Ok h) a) (f area
               (eq-eqb (counted (costs_at cs)) 0 (sym left)))
           of (suc v) left (inl q) = absurd (omega (arith, q))
           of (suc v) left (inr l) =
-              rw (ne_eqb (suc v) 0 (λ q. omega (arith, q)))
-              (sym (first_nowhere h.edges f (costs_at a.links.cost) (none_at counted) r.at r.count (costs_at cs) w.heard (costs_at xs) e
-              (ne_eqb (counted (costs_at cs)) 0 (λ q. omega (arith, left, q))) l))
+              sym (ap packets_told (when_never (suc v) r.count (λ q. omega (arith, q))))
+              ∙ sym (first_nowhere h.edges f (costs_at a.links.cost) (none_at counted) r.at r.count (costs_at cs) w.heard (costs_at xs) e
+              (ne_eqb (counted (costs_at cs)) 0 (λ q. omega (arith, left, q))) l)
 
 -- ---- what was written, with the first number
+
+pub first_refused : (q : Refusal) (when : prelude.Option ℕ) → Err q ≡ with_first (Err q) when
+first_refused q when = refl
+
+pub first_written : (n : ℕ) (when : prelude.Option ℕ) → Ok (record { length = n; first = when }) ≡ with_first (Ok n) when
+first_written n when = refl
+
+pub with_outcome :
+    (reply : Result ℕ Refusal) (after bytes area : List ℕ) (when : prelude.Option ℕ) → outcome reply after ≡ written 0 bytes 0 area
+    → replay_outcome (with_first reply when) after ≡ written 0 bytes 0 area
+with_outcome (Ok n) after bytes area when e = e
+with_outcome (Err q) after bytes area when e = e
 
 pub with_told :
     (r : Result ℕ Refusal) (when : prelude.Option ℕ) (s f : List ℕ) → packets_told when ≡ first_for 0 s f

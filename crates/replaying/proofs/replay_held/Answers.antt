@@ -11,7 +11,7 @@ use Rattle.sheet_read.specs.ApplyLaws.{given_some, given_none}
 use Rattle.replaying.specs.Replayed.{packets_told}
 use Rattle.replaying.specs.ReplayedLaws.{log_replayed_of}
 use Rattle.replaying.specs.HeldCounts.{priced_held, countable_held}
-use Rattle.replaying.specs.ReplaySteps.{told_refused, replay_six, replay_nine, replay_broken, replay_whole, replay_first, with_told}
+use Rattle.replaying.specs.ReplaySteps.{told_refused, replay_six, replay_nine, replay_broken, replay_whole, replay_first, with_outcome, with_told}
 use Rattle.replaying.proofs.replay_held.Goals as goal
 
 pub returns-in-Err : goal.returns-in-Err
@@ -77,6 +77,7 @@ returns c =
     λ s k.
     let held = rw c.in-Ok.is at k in
     log_replayed_of s a.log.now a.area.now k.bytes (λ i. (c.type_inv.log i).fits) _ _
-    (c.in_ok-length.ensures ∙ replay_whole held a.log.now a.area.now _ _ heard xs left)
+    (with_outcome (Ok c.in_ok-length.length) _ _ a.area.now c.then_some-first.result c.in_ok-length.ensures ∙
+    replay_whole held a.log.now a.area.now _ _ heard xs left)
     (with_told (Ok c.in_ok-length.length) c.then_some-first.result s a.log.now
     (ap packets_told c.then_some-first.ensures ∙ replay_first held a.log.now a.area.now _ _ heard xs left))
