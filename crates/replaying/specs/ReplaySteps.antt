@@ -49,12 +49,9 @@ when_after v count e = rw e
 asked_not : (r : ℕ) (o : Option (List Packet)) (g : List Packet → List ℕ) → r ≡ 0 → o ≡ none → later r (is_some (map g o)) 9 ≡ 9
 asked_not r o g z e = rw (z, e)
 
-pub told_refused : (q : Refusal) (s f : List ℕ) → none ≡ first_for (number_of q) s f
-told_refused q s f = of (number_of q) (refusal_nonzero q)
-  where
-    of : (r : ℕ) → (r ≡ 0 → ⊥) → none ≡ first_for r s f
-    of zero n = absurd (n refl)
-    of (suc r) n = refl
+pub told_refused : (r : ℕ) (s f : List ℕ) → (r ≡ 0 → ⊥) → none ≡ first_for r s f
+told_refused zero s f n = absurd (n refl)
+told_refused (suc r) s f n = refl
 
 -- By the six.
 module _ {s : List ℕ} {q : Refusal} {a : Arrays} (k : Asked s (Err q) a) (f area : List ℕ) where
@@ -172,4 +169,4 @@ pub with_told :
     (r : Result ℕ Refusal) (when : prelude.Option ℕ) (s f : List ℕ) → packets_told when ≡ first_for 0 s f
     → first_told (with_first r when) ≡ first_for (refusal_in (with_first r when)) s f
 with_told (Ok n) when s f e = e
-with_told (Err q) when s f e = told_refused q s f
+with_told (Err q) when s f e = told_refused (number_of q) s f (refusal_nonzero q)

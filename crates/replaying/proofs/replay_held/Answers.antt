@@ -5,7 +5,8 @@ use Rattle.std.specs.Prelude.{Ok, Err}
 use Rattle.std.proofs.lemmas.Result.{err_from_is_err_and}
 use Rattle.std.specs.Option.{ok_or}
 use Rattle.limits.specs.declared.Refusal.TheVariants.{Log}
-use Rattle.limits.specs.ResultLaws.{same_err}
+use Rattle.limits.specs.Refusals.{number_of}
+use Rattle.limits.specs.ResultLaws.{refusal_nonzero, same_err}
 use Rattle.sheet.specs.Reading.{costs_at}
 use Rattle.sheet_read.specs.ApplyLaws.{given_some, given_none}
 use Rattle.replaying.specs.Replayed.{packets_told}
@@ -20,7 +21,7 @@ returns-in-Err c =
     let q = c.in-Err.refusal in
     λ s k.
     log_replayed_of s a.log.now a.area.now k.bytes (λ i. (c.type_inv.log i).fits) (Err q) _
-    (replay_six (rw c.in-Err.is at k) a.log.now a.area.now) (told_refused q s a.log.now)
+    (replay_six (rw c.in-Err.is at k) a.log.now a.area.now) (told_refused (number_of q) s a.log.now (refusal_nonzero q))
 
 pub until_cheapest-watched-requires : goal.until_cheapest-watched-requires
 until_cheapest-watched-requires c =
@@ -37,7 +38,7 @@ returns-in_err-heard c =
     rw (p.1, p.2, nine)
     (log_replayed_of s a.log.now a.area.now k.bytes (λ i. (c.type_inv.log i).fits) (Err Log) _
     (replay_nine (rw c.in-Ok.is at k) a.log.now a.area.now (rw none at c.until_cheapest-watched.ensures.so_far))
-    (told_refused Log s a.log.now))
+    (told_refused 9 s a.log.now (refusal_nonzero Log)))
 
 pub returns-then-not-hear_rest : goal.returns-then-not-hear_rest
 returns-then-not-hear_rest c =
@@ -50,7 +51,7 @@ returns-then-not-hear_rest c =
     (replay_nine held a.log.now a.area.now
     (replay_broken held a.log.now a.area.now _ _ heard
     (given_none rest.result (costs_at rest.new.costs) _ c.if-not-hear_rest.true rest.ensures)))
-    (told_refused Log s a.log.now)
+    (told_refused 9 s a.log.now (refusal_nonzero Log))
 
 pub returns-in_err-length : goal.returns-in_err-length
 returns-in_err-length c =
@@ -65,7 +66,7 @@ returns-in_err-length c =
     rw (p.1, p.2)
     (log_replayed_of s a.log.now a.area.now k.bytes (λ i. (c.type_inv.log i).fits) (Err q) _
     (c.in_err-length.ensures ∙ replay_whole (rw c.in-Ok.is at k) a.log.now a.area.now _ _ heard xs left)
-    (told_refused q s a.log.now))
+    (told_refused (number_of q) s a.log.now (refusal_nonzero q)))
 
 pub returns : goal.returns
 returns c =
